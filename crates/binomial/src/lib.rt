@@ -1,0 +1,1 @@
+// Binomial coefficients: the definition stands in specs/.

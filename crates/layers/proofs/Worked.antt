@@ -1,0 +1,31 @@
+-- The order of checks on the rows, on cases worked by hand: two layers of one row each, r = 2, n = 3, from place 1. Assumes
+-- nothing.
+use Prim.Native.Nat.{ℕ}
+use mathlib.Core.Path.{_≡_, refl}
+use mathlib.Core.List.{List, [], _∷_, flatten}
+use mathlib.Core.Option.{none, some}
+use Rattle.lists.specs.Lists.{count, every, any, firstWhere, total}
+use Rattle.refusal.specs.declared.Refusal.the-variants.{Ended, Trailing, BadRow, Crowded}
+use Rattle.refusal.specs.Checked.{Checked, accepted, refused}
+use Rattle.packing.specs.Rows.{ascending, rowsAt, member, holds, together, subsets, crowded, firstCrowded, firstBad}
+use Rattle.layers.specs.Layers.{Layer, LayerHead, layersAt, firstCrowdedOf, checkRows}
+
+-- the rows of two layers, with bounds 0 and 1
+abbrev pub rowsOf : List ℕ → Checked (List Layer)
+rowsOf rows =
+    checkRows 3 2 (record { bound = 0; size = 1 } ∷ record { bound = 1; size = 1 } ∷ []) (9 ∷ rows) 1
+
+-- one byte short; one byte over; a bad row in layer 1 after a crowded one in layer 0; a crowded row
+pub order-of-checks : (rowsOf (0 ∷ 0 ∷ 1 ∷ []) ≡ refused (Ended 4))
+    × (rowsOf (0 ∷ 0 ∷ 1 ∷ 2 ∷ 3 ∷ []) ≡ refused (Trailing 5))
+    × (rowsOf (0 ∷ 1 ∷ 2 ∷ 1 ∷ []) ≡ refused (BadRow 3))
+    × (rowsOf (0 ∷ 1 ∷ 1 ∷ 2 ∷ []) ≡ refused (Crowded 1))
+unfolding count every any firstWhere total flatten ascending rowsAt member holds together subsets crowded firstCrowded firstBad layersAt firstCrowdedOf checkRows
+order-of-checks = (refl, refl, refl, refl)
+
+-- rows 01 and 02 share node 0, which layer 1 allows and layer 0 does not; the place counts the rows of layer 0
+pub layer-numbers :
+    (firstCrowdedOf 0 (record { bound = 1; rows = (0 ∷ 1 ∷ []) ∷ [] } ∷ record { bound = 1; rows = (0 ∷ 1 ∷ []) ∷ (0 ∷ 2 ∷ []) ∷ [] } ∷ []) ≡ none)
+    × (firstCrowdedOf 0 (record { bound = 1; rows = (0 ∷ 1 ∷ []) ∷ [] } ∷ record { bound = 1; rows = (0 ∷ 2 ∷ []) ∷ (0 ∷ 1 ∷ []) ∷ (0 ∷ 1 ∷ []) ∷ [] } ∷ []) ≡ some 2)
+unfolding count every any firstWhere member holds together subsets crowded firstCrowded firstCrowdedOf
+layer-numbers = (refl, refl)

@@ -1,0 +1,1 @@
+// Lists: definitions and laws that the other crates share. There is no code here.

@@ -1,0 +1,4 @@
+pub mod Rows
+pub mod Failures
+pub mod Answers
+pub mod SevenCabinets

@@ -1,0 +1,4 @@
+pub mod Figure
+pub mod Placement
+pub mod Answers
+pub mod SevenCabinets

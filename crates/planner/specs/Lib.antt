@@ -1,0 +1,3 @@
+pub mod Splits
+pub mod Planning
+pub mod Answers

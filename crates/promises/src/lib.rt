@@ -1,0 +1,1 @@
+// The promises: theorems alone, no code.

@@ -1,0 +1,33 @@
+-- A result or a refusal, and the order of checks: the first refusal met is the answer. Assumes nothing.
+use Prim.Native.Nat.{ℕ}
+use mathlib.Core.Bool.{Bool, true, false}
+use mathlib.Core.List.{List, _++_}
+use lib.ListN.{length, drop}
+use Rattle.refusal.specs.declared.Refusal.{Refusal}
+
+-- Demand 1: "finishes with a result or a numbered refusal and its place".
+pub data Checked (A : Type 0) : Type 0 where
+  accepted : A → Checked A
+  refused : Refusal → Checked A
+
+infixl 10 _>>=_
+-- `do a ← m; f a`: m is checked first, and what follows only where m is accepted
+abbrev pub _>>=_ : {A B : Type 0} → Checked A → (A → Checked B) → Checked B
+accepted a >>= f = f a
+refused e >>= f = refused e
+
+-- the refusal e unless the test passes
+abbrev pub require : Bool → Refusal → Checked Unit
+require true e = accepted tt
+require false e = refused e
+
+-- f of what is accepted
+abbrev pub mapAccepted : {A B : Type 0} → (A → B) → Checked A → Checked B
+mapAccepted f (accepted a) = accepted (f a)
+mapAccepted f (refused e) = refused e
+
+-- A lent slice after a call that writes at its start: "bytes or entries past the written length don't change"; "A refusal
+-- leaves every lent slice unchanged."
+abbrev pub written : Checked (List ℕ) → List ℕ → List ℕ
+written (accepted bytes) out = bytes ++ drop (length bytes) out
+written (refused e) out = out

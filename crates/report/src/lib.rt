@@ -1,0 +1,1 @@
+// What the programs `check` and `plan` write.

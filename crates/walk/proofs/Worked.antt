@@ -1,0 +1,27 @@
+-- The walk over document 01's placement of nine records, by computation. Assumes nothing.
+use Prim.Native.Nat.{ℕ}
+use mathlib.Core.Path.{_≡_, refl, ap}
+use mathlib.Core.List.{[], _∷_, flatten}
+use Rattle.refusal.specs.Checked.{accepted, mapAccepted}
+use Rattle.placement.specs.SevenCabinets.{placementFile, sevenPlacement}
+use Rattle.placement.proofs.Worked.{placements}
+use Rattle.walk.specs.declared.Cursor.{Cursor}
+use Rattle.walk.specs.RowWalk.{firstRow, openWalk, stepRow, stepWalk}
+
+-- the walk's place with so many rows left, nine rows of three bytes ending at byte 38
+abbrev pub nineAt : (at left : ℕ) → Cursor
+nineAt at left = record { at = at; r = 3; left = left }
+
+-- it opens at byte 11; the first row, the last row, the end, and the end again, also for a walk past the last byte
+pub walks : (openWalk (placementFile 5) ≡ accepted (nineAt 11 9))
+    × (stepRow (placementFile 5) (nineAt 11 9) ≡ 0 ∷ 1 ∷ 2 ∷ [])
+    × (stepWalk (placementFile 5) (nineAt 11 9) ≡ nineAt 14 8)
+    × (stepRow (placementFile 5) (nineAt 35 1) ≡ 2 ∷ 4 ∷ 5 ∷ [])
+    × (stepWalk (placementFile 5) (nineAt 35 1) ≡ nineAt 38 0)
+    × (stepRow (placementFile 5) (nineAt 38 0) ≡ [])
+    × (stepWalk (placementFile 5) (nineAt 38 0) ≡ nineAt 38 0)
+    × (stepRow (placementFile 5) (nineAt 36 1) ≡ [])
+    × (stepWalk (placementFile 5) (nineAt 36 1) ≡ nineAt 36 1)
+unfolding flatten placementFile sevenPlacement openWalk stepRow stepWalk
+walks =
+    (ap (mapAccepted (firstRow (placementFile 5))) (placements .1), refl, refl, refl, refl, refl, refl, refl, refl)

@@ -1,0 +1,42 @@
+-- Document 01, "Row walk and programs": the row walk. Assumes nothing.
+use Prim.Native.Nat.{ℕ, _+_, _*_, _-_}
+use mathlib.Core.Bool.{Bool, cond, _&&_}
+use mathlib.Core.List.{List, [], _∷_}
+use lib.ListN.{length, take, drop}
+use lib.Dec.{leb, ltb}
+use Rattle.refusal.specs.Refusals.{Outcome, result, refusalOutcome}
+use Rattle.refusal.specs.Checked.{Checked, accepted, refused, mapAccepted}
+use Rattle.placement.specs.Placement.{Placement, checkPlacement}
+use Rattle.walk.specs.declared.Cursor.{Cursor}
+use Rattle.walk.specs.declared.WalkOpened.{WalkOpened}
+use Rattle.walk.specs.declared.WalkOpened.the-variants.{Opened, Refused}
+
+-- the place of the first row, with all rows left: the rows are the file's last bytes
+abbrev pub firstRow : List ℕ → Placement → Cursor
+firstRow bytes p = record { at = length bytes - p .b * p .r; r = p .r; left = p .b }
+
+-- "A row walk opens on a placement (refusals as in checking)"
+unfoldable pub openWalk : List ℕ → Checked Cursor
+openWalk bytes = mapAccepted (firstRow bytes) (checkPlacement bytes)
+
+-- "After b steps it gives the end ..; so does a walk whose next r bytes would pass the last byte."
+abbrev pub hasRow : List ℕ → Cursor → Bool
+hasRow bytes walk = ltb 0 (walk .left) && leb (walk .at + walk .r) (length bytes)
+
+-- "A step hands out the next row's r bytes as that part of the caller's bytes"; "the end, an empty part"
+unfoldable pub stepRow : List ℕ → Cursor → List ℕ
+stepRow bytes walk = cond (hasRow bytes walk) (take (walk .r) (drop (walk .at) bytes)) []
+
+-- "with the walk moved past them"; at the end "with the walk unmoved"
+unfoldable pub stepWalk : List ℕ → Cursor → Cursor
+stepWalk bytes walk =
+    cond (hasRow bytes walk) (record { at = walk .at + walk .r; r = walk .r; left = walk .left - 1 }) walk
+
+abbrev pub walkOpened : Checked Cursor → WalkOpened
+walkOpened (accepted walk) = Opened walk
+walkOpened (refused e) = Refused e
+
+-- an opened walk's values are the first row's place, r and b
+abbrev pub walkOutcome : WalkOpened → Outcome
+walkOutcome (Opened walk) = result (walk .at ∷ walk .r ∷ walk .left ∷ [])
+walkOutcome (Refused e) = refusalOutcome e
