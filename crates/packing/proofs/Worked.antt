@@ -1,9 +1,9 @@
 -- Cases of rows and failures worked by hand. Assumes nothing.
 use mathlib.Core.Path.{_≡_, refl}
-use mathlib.Core.List.{[], _∷_}
+use mathlib.Core.List.{[], _∷_, _++_}
 use mathlib.Core.Option.{none, some}
-use Rattle.lists.specs.Lists.{count, every, any, firstWhere}
-use Rattle.packing.specs.Rows.{ascending, member, holds, together, subsets, crowded, firstCrowded, firstBad}
+use Rattle.lists.specs.Lists.{count, every, any, firstWhere, upTo}
+use Rattle.packing.specs.Rows.{ascending, member, holds, together, subsets, crowded, firstCrowded, firstBad, repeated}
 use Rattle.packing.specs.Failures.{usable}
 use Rattle.packing.specs.SevenCabinets.{rows0, rows1, row245}
 
@@ -32,3 +32,8 @@ pub survivors-of-two : (usable 2 (rows1 row245) (λ v. member v (4 ∷ 6 ∷ [])
     × (usable 1 (rows1 row245) (λ v. member v (4 ∷ 6 ∷ [])) ≡ 2)
 unfolding count member usable
 survivors-of-two = (refl, refl)
+
+-- nine rows of seven blocks
+pub repeats : repeated (rows1 row245) 9 ≡ rows1 row245 ++ (0 ∷ 1 ∷ 2 ∷ []) ∷ (0 ∷ 3 ∷ 4 ∷ []) ∷ []
+unfolding upTo repeated
+repeats = refl

@@ -1,13 +1,13 @@
 -- Document 01, "Numbers and rows": rows, and sets of nodes that stand together in rows. Nodes are compared and counted
 -- by membership, and sets have any size x+1. Assumes nothing.
-use Prim.Native.Nat.{ℕ, zero, suc, _≤_}
+use Prim.Native.Nat.{ℕ, zero, suc, _%_, _≤_}
 use mathlib.Core.Path.{_≡_}
 use mathlib.Core.Bool.{Bool, true, false, not, _&&_, _||_}
 use mathlib.Core.List.{List, [], _∷_, _++_, map}
 use mathlib.Core.Option.{Option}
-use lib.ListN.{length, take, drop}
+use lib.ListN.{length, getD, take, drop}
 use lib.Dec.{T, leb, ltb, eqb}
-use Rattle.lists.specs.Lists.{count, every, any, firstWhere}
+use Rattle.lists.specs.Lists.{count, every, any, firstWhere, upTo}
 
 -- each node is at least `lo` and above the one before it
 unfoldable pub ascending : (lo : ℕ) → List ℕ → Bool
@@ -26,6 +26,10 @@ Row n r row = (length row ≡ r) × T (inOrder n row)
 unfoldable pub rowsAt : (r c : ℕ) → List ℕ → List (List ℕ)
 rowsAt r zero s = []
 rowsAt r (suc c) s = take r s ∷ rowsAt r c (drop r s)
+
+-- "Row j (from 0) of a layer is its block j mod m": the first c rows
+unfoldable pub repeated : (blocks : List (List ℕ)) (c : ℕ) → List (List ℕ)
+repeated blocks c = map (λ j. getD blocks (j % length blocks) []) (upTo c)
 
 -- v is one of the nodes
 unfoldable pub member : ℕ → List ℕ → Bool

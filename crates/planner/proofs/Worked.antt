@@ -1,22 +1,22 @@
 -- Document 01's orders with the pack P, and the order of refusals, by computation. Assumes nothing.
 use Prim.Native.Nat.{ℕ}
 use mathlib.Core.Path.{_≡_, refl}
-use mathlib.Core.List.{List, [], _∷_, _++_, map, flatten}
+use mathlib.Core.List.{List, [], _∷_, map, flatten}
 use Rattle.lists.specs.Lists.{count, every, any, firstWhere, total, upTo}
 use Rattle.refusal.specs.Checked.{Checked, accepted, refused, mapAccepted}
 use Rattle.refusal.specs.declared.Refusal.the-variants.{BadOrder, NoBlock, ShortWork, ShortOutput}
 use Rattle.binomial.specs.Choose.{choose}
 use Rattle.number.specs.Numbers.{groups, numberBytes, readGroups, readNumber, readWithin}
-use Rattle.packing.specs.Rows.{ascending, rowsAt, member, holds, together, subsets, crowded, firstCrowded, firstBad}
+use Rattle.packing.specs.Rows.{ascending, rowsAt, member, holds, together, subsets, crowded, firstCrowded, firstBad, repeated}
 use Rattle.layers.specs.Layers.{size, headNumbers, readKind, readLayers, layersAt, firstCrowdedOf, checkRows}
 use Rattle.pack.specs.Pack.{checkPack}
-use Rattle.packing.specs.SevenCabinets.{rows1, row245}
+use Rattle.packing.specs.SevenCabinets.{row245}
 use Rattle.pack.specs.SevenCabinets.{packBytes}
 use Rattle.placement.specs.Figure.{loss, losses, figureOf}
 use Rattle.placement.specs.Placement.{Placement, placementBytes}
 use Rattle.placement.specs.SevenCabinets.{placementFile, sevenPlacement}
 use Rattle.planner.specs.Splits.{lossOf, least, lastLeast, leastLoss, bestCount, namedCounts, namedSplit}
-use Rattle.planner.specs.Planning.{repeated, splitPlacement, namedPlacement, hasBlock, checkOrder, planned, plan}
+use Rattle.planner.specs.Planning.{splitPlacement, namedPlacement, hasBlock, checkOrder, planned, plan}
 
 -- the placement that an order of P gives
 abbrev pub orderOf : (s k b : ℕ) → Checked Placement
@@ -43,10 +43,9 @@ pub orders : (figureIn (orderOf 2 2 7) ≡ accepted 6)
 unfolding count every any firstWhere total upTo flatten choose groups numberBytes readGroups readNumber readWithin ascending rowsAt member holds together subsets crowded firstCrowded firstBad headNumbers readKind readLayers layersAt firstCrowdedOf checkRows checkPack packBytes loss losses figureOf placementBytes placementFile sevenPlacement lossOf least lastLeast leastLoss bestCount namedCounts namedSplit repeated splitPlacement namedPlacement hasBlock checkOrder planned
 orders = (refl, refl, refl, refl, refl, refl, refl, refl, refl, refl)
 
--- "Row j (from 0) of a layer is its block j mod m": nine rows of seven blocks. "Planning checks the pack, then 12, 9": s, k
+-- "Planning checks the pack, then 12, 9": s, k
 -- and b outside limits, and "4,097 gives 12 with place 2".
-pub plans : (repeated (rows1 row245) 9 ≡ rows1 row245 ++ (0 ∷ 1 ∷ 2 ∷ []) ∷ (0 ∷ 3 ∷ 4 ∷ []) ∷ [])
-    × (orderOf 4 3 9 ≡ refused (BadOrder 0))
+pub plans : (orderOf 4 3 9 ≡ refused (BadOrder 0))
     × (orderOf 2 7 9 ≡ refused (BadOrder 1))
     × (orderOf 2 1 9 ≡ refused (BadOrder 1))
     × (orderOf 2 3 4_097 ≡ refused (BadOrder 2))
@@ -55,4 +54,4 @@ pub plans : (repeated (rows1 row245) 9 ≡ rows1 row245 ++ (0 ∷ 1 ∷ 2 ∷ []
     × (plan (packBytes row245) 2 3 9 20 90 ≡ refused (ShortOutput 91))
     × (plan (packBytes row245) 2 3 9 20 91 ≡ accepted sevenPlacement)
 unfolding count every any firstWhere total upTo flatten choose readGroups readNumber readWithin ascending rowsAt member holds together subsets crowded firstCrowded firstBad readKind readLayers layersAt firstCrowdedOf checkRows checkPack packBytes loss losses figureOf sevenPlacement lossOf least lastLeast leastLoss bestCount namedCounts namedSplit repeated splitPlacement namedPlacement hasBlock checkOrder planned plan
-plans = (refl, refl, refl, refl, refl, refl, refl, refl, refl)
+plans = (refl, refl, refl, refl, refl, refl, refl, refl)

@@ -1,21 +1,18 @@
 -- Document 01, "Planning": the placement that is written, and the whole answer. Assumes nothing.
-use Prim.Native.Nat.{ℕ, suc, _+_, _*_, _%_}
+use Prim.Native.Nat.{ℕ, suc, _+_, _*_}
 use mathlib.Core.Path.{_≡_}
 use mathlib.Core.Bool.{Bool, _&&_}
-use mathlib.Core.List.{List, [], map}
-use lib.ListN.{length, getD, take, drop}
+use mathlib.Core.List.{List, map}
+use lib.ListN.{length, take, drop}
 use lib.Dec.{leb, ltb}
 use Rattle.lists.specs.Lists.{any, upTo}
 use Rattle.refusal.specs.declared.Refusal.the-variants.{BadOrder, NoBlock, ShortWork, ShortOutput}
 use Rattle.refusal.specs.Checked.{Checked, accepted, refused, _>>=_, require, mapAccepted, written}
+use Rattle.packing.specs.Rows.{repeated}
 use Rattle.layers.specs.Layers.{Layer, size}
 use Rattle.pack.specs.Pack.{Pack, checkPack}
 use Rattle.placement.specs.Placement.{Placement, placementBytes}
 use Rattle.planner.specs.Splits.{Share, layerAt, splitFigure, namedSplit}
-
--- "Row j (from 0) of a layer is its block j mod m": the first c rows
-unfoldable pub repeated : (blocks : List (List ℕ)) (c : ℕ) → List (List ℕ)
-repeated blocks c = map (λ j. getD blocks (j % length blocks) []) (upTo c)
 
 -- one layer of a split's placement: "its lambda is d × mu"
 abbrev pub placed : Layer → Share → Layer

@@ -1,0 +1,1 @@
+// The packing test on rows in bytes.

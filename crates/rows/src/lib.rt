@@ -1,0 +1,1 @@
+// Rows in bytes: their order, and writing blocks as rows.
