@@ -1,0 +1,4 @@
+pub mod Tests
+pub mod Counts
+pub mod Alls
+pub mod Finds
