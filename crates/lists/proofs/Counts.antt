@@ -1,13 +1,13 @@
--- How many elements of a list pass a test; sums; the numbers below n. Assumes nothing.
+-- How many elements of a list pass a test; sums. Assumes nothing.
 use Prim.Native.Nat.{ℕ, zero, suc, _+_, _≤_, zero-le}
 use native.Mathlib.Omega.{arith}
 use native.Mathlib.Nat.{le-refl}
 use mathlib.Core.Path.{_≡_, refl, sym, _∙_, ap}
 use mathlib.Core.Bool.{Bool, true, false, not}
 use mathlib.Core.List.{List, [], _∷_, _++_, map, flatten, append-assoc}
-use lib.ListN.{length, length-append}
+use lib.ListN.{length}
 use lib.Dec.{T}
-use Rattle.lists.specs.Lists.{tally, count, total, upTo}
+use Rattle.lists.specs.Lists.{tally, count, total}
 
 -- a tally is at most one more
 pub tally-add : (b : Bool) (m n : ℕ) → tally b m + n ≡ tally b (m + n)
@@ -77,8 +77,3 @@ pub total-append : (l m : List ℕ) → total (l ++ m) ≡ total l + total m
 unfolding total
 total-append [] m = omega arith
 total-append (n ∷ l) m = rw (total-append l m) (omega arith)
-
-pub length-upTo : (n : ℕ) → length (upTo n) ≡ n
-unfolding upTo
-length-upTo zero = refl
-length-upTo (suc n) = length-append (upTo n) (n ∷ []) ∙ rw (length-upTo n) (omega arith)

@@ -1,0 +1,272 @@
+"""Document 01 in its simplest form: packs, placements, planning, the row walk and the two programs' replies.
+
+Written from document 01 alone, with brute force where it can. Standard library only.
+"""
+from itertools import combinations, product
+from math import comb
+
+LARGEST = 268_435_455
+
+
+class Refused(Exception):
+    def __init__(self, number, place):
+        super().__init__(f"refused {number} {place}")
+        self.number = number
+        self.place = place
+
+
+# --- numbers
+
+def number_bytes(v):
+    out = []
+    while v >= 128:
+        out.append(128 + v % 128)
+        v //= 128
+    out.append(v)
+    return bytes(out)
+
+
+def read_number(data, at):
+    value = 0
+    for group in range(4):
+        if at + group >= len(data):
+            raise Refused(1, len(data))
+        byte = data[at + group]
+        value += (byte % 128) * 128 ** group
+        if byte < 128:
+            if byte == 0 and group > 0:
+                raise Refused(2, at)
+            return value, at + group + 1
+    raise Refused(2, at)
+
+
+def write_number(out, v):
+    if v > LARGEST:
+        raise Refused(4, 0)
+    form = number_bytes(v)
+    if len(form) > len(out):
+        raise Refused(11, len(form))
+    out[:len(form)] = form
+    return len(form)
+
+
+def read_within(data, at, lo, hi):
+    value, after = read_number(data, at)
+    if not lo <= value <= hi:
+        raise Refused(4, at)
+    return value, after
+
+
+def read_kind(data, kind):
+    value, after = read_number(data, 0)
+    if value != kind:
+        raise Refused(3, 0)
+    return after
+
+
+# --- rows
+
+def good_row(row, n):
+    return list(row) == sorted(set(row)) and all(node < n for node in row)
+
+
+def together(rows, nodes):
+    return sum(1 for row in rows if set(nodes) <= set(row))
+
+
+def first_crowded(rows, x, bound):
+    """The first row that holds x+1 nodes which stand together in more than `bound` of the rows, or None."""
+    many = {}
+    for row in rows:
+        for nodes in combinations(sorted(set(row)), x + 1):
+            many[nodes] = many.get(nodes, 0) + 1
+    for i, row in enumerate(rows):
+        if any(many[nodes] > bound for nodes in combinations(sorted(set(row)), x + 1)):
+            return i
+    return None
+
+
+def check_rows(data, at, n, r, heads):
+    """heads: (bound, size) of each layer. The layers' rows, from `at` on."""
+    size = sum(c for _, c in heads)
+    end = at + size * r
+    if len(data) < end:
+        raise Refused(1, len(data))
+    if len(data) > end:
+        raise Refused(5, end)
+    rows = [tuple(data[at + i * r:at + (i + 1) * r]) for i in range(size)]
+    for i, row in enumerate(rows):
+        if not good_row(row, n):
+            raise Refused(6, at + i * r)
+    layers, done = [], 0
+    for bound, c in heads:
+        layers.append((bound, rows[done:done + c]))
+        done += c
+    done = 0
+    for x, (bound, mine) in enumerate(layers):
+        i = first_crowded(mine, x, bound)
+        if i is not None:
+            raise Refused(7, at + (done + i) * r)
+        done += len(mine)
+    return layers
+
+
+# --- packs
+
+def check_pack(data):
+    at = read_kind(data, 1)
+    n, at = read_within(data, at, 2, 255)
+    r, at = read_within(data, at, 2, min(5, n))
+    heads, so_far = [], 0
+    for _ in range(r):
+        mu, at = read_within(data, at, 1, 4096)
+        m, at = read_within(data, at, 0, 4096 - so_far)
+        so_far += m
+        heads.append((mu, m))
+    return {"n": n, "r": r, "at": at, "layers": check_rows(data, at, n, r, heads)}
+
+
+# --- placements
+
+def loss(s, k, x, bound, c):
+    return min(c, bound * comb(k, x + 1) // comb(s, x + 1))
+
+
+def figure(s, k, b, heads):
+    return b - sum(loss(s, k, x, bound, c) for x, (bound, c) in enumerate(heads))
+
+
+def check_placement(data):
+    at = read_kind(data, 2)
+    n, at = read_within(data, at, 2, 255)
+    r, at = read_within(data, at, 2, min(5, n))
+    s, at = read_within(data, at, 1, r)
+    k, at = read_within(data, at, s, n - 1)
+    b, at = read_within(data, at, 1, 4096)
+    figure_at = at
+    f, at = read_within(data, at, 0, b)
+    heads, left = [], b
+    for x in range(s):
+        bound, at = read_within(data, at, 0, 16_777_216)
+        c, at = read_within(data, at, left if x == s - 1 else 0, left)
+        left -= c
+        heads.append((bound, c))
+    layers = check_rows(data, at, n, r, heads)
+    if f != figure(s, k, b, heads):
+        raise Refused(8, figure_at)
+    return {"n": n, "r": r, "s": s, "k": k, "b": b, "F": f, "at": at, "layers": layers}
+
+
+def usable(rows, s, failed):
+    return sum(1 for row in rows if sum(node in failed for node in row) < s)
+
+
+def worst_case(placement):
+    """The fewest usable records over every choice of k failed nodes (definition 1 of the paper)."""
+    rows = [row for _, layer in placement["layers"] for row in layer]
+    return min(usable(rows, placement["s"], set(failed))
+               for failed in combinations(range(placement["n"]), placement["k"]))
+
+
+# --- planning
+
+def least_copies(c, m):
+    return -(-c // m) if c else 0
+
+
+def named_split(layers, s, k, b):
+    """The counts of the layers below s: the highest figure, then the largest count from layer s-1 down."""
+    best = {0: (0, ())}
+    for x in range(s):
+        mu, blocks = layers[x]
+        m = len(blocks)
+        losses = [loss(s, k, x, least_copies(c, m) * mu, c) if m or not c else None for c in range(b + 1)]
+        after = {}
+        for total in range(b + 1):
+            for c in range(total, -1, -1):
+                if losses[c] is None or total - c not in best:
+                    continue
+                cost = losses[c] + best[total - c][0]
+                if total not in after or cost < after[total][0]:
+                    after[total] = (cost, best[total - c][1] + (c,))
+        best = after
+    return best[b][1]
+
+
+def every_split(s, b):
+    for counts in product(range(b + 1), repeat=s):
+        if sum(counts) == b:
+            yield counts
+
+
+def named_split_by_force(layers, s, k, b):
+    """The same over every split, for small b."""
+    ranked = []
+    for counts in every_split(s, b):
+        if any(c and not layers[x][1] for x, c in enumerate(counts)):
+            continue
+        heads = [(least_copies(c, len(layers[x][1])) * layers[x][0], c) for x, c in enumerate(counts)]
+        ranked.append((figure(s, k, b, heads), tuple(reversed(counts)), counts))
+    return max(ranked)[2]
+
+
+def plan(data, s, k, b, work=None, output=None):
+    """The placement's bytes, its figure and its counts. work, output: the slices' lengths, None for long enough."""
+    pack = check_pack(data)
+    n, r, layers = pack["n"], pack["r"], pack["layers"]
+    if not 1 <= s <= r:
+        raise Refused(12, 0)
+    if not s <= k <= n - 1:
+        raise Refused(12, 1)
+    if not 1 <= b <= 4096:
+        raise Refused(12, 2)
+    if not any(blocks for _, blocks in layers[:s]):
+        raise Refused(9, 0)
+    if work is not None and work < s * (b + 1):
+        raise Refused(10, s * (b + 1))
+    if output is not None and output < 64 + b * r:
+        raise Refused(11, 64 + b * r)
+    counts = named_split(layers, s, k, b)
+    heads = [(least_copies(c, len(layers[x][1])) * layers[x][0], c) for x, c in enumerate(counts)]
+    f = figure(s, k, b, heads)
+    numbers = [2, n, r, s, k, b, f] + [v for head in heads for v in head]
+    out = b"".join(number_bytes(v) for v in numbers)
+    for x, c in enumerate(counts):
+        blocks = layers[x][1]
+        out += b"".join(bytes(blocks[j % len(blocks)]) for j in range(c))
+    return out, f, counts
+
+
+# --- the row walk
+
+def walk(data):
+    """Every row that the walk hands out, in order."""
+    p = check_placement(data)
+    return [data[p["at"] + i * p["r"]:p["at"] + (i + 1) * p["r"]] for i in range(p["b"])]
+
+
+# --- the programs
+
+def check_reply(data):
+    try:
+        p = check_placement(data)
+    except Refused as e:
+        return f"refused {e.number} {e.place}\n".encode()
+    rows = [row for _, layer in p["layers"] for row in layer]
+    most = max(sum(node in row for row in rows) for node in range(p["n"]))
+    mean = (2 * p["b"] * p["r"] + p["n"]) // (2 * p["n"])
+    return f"accepted {p['F']} {p['b']} {p['k']} {p['n']} {most} {mean}\n".encode()
+
+
+def plan_reply(data):
+    at, order = 0, []
+    for index in range(3):
+        try:
+            v, at = read_number(data, at)
+        except Refused:
+            return f"refused 12 {index}\n".encode()
+        order.append(v)
+    try:
+        return plan(data[at:], *order)[0]
+    except Refused as e:
+        return f"refused {e.number} {e.place}\n".encode()

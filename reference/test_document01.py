@@ -1,0 +1,111 @@
+"""Tests of the independent implementation: document 01's examples, and brute force on small estates."""
+import random
+import unittest
+
+from document01 import (Refused, check_pack, check_placement, check_reply, comb, figure, named_split,
+                        named_split_by_force, number_bytes, plan, plan_reply, read_number, together, walk, worst_case)
+
+ROWS = "012 345 012 034 056 135 146 236 245".split()
+P = bytes([1, 7, 3, 1, 2, 1, 7, 1, 0]) + bytes(int(d) for row in ROWS for d in row)
+NINE = bytes([2, 7, 3, 2, 3, 9, 5, 1, 2, 1, 7]) + bytes(int(d) for row in ROWS for d in row)
+
+
+def refusal(call, *args):
+    try:
+        call(*args)
+    except Refused as e:
+        return e.number, e.place
+    return None
+
+
+class Examples(unittest.TestCase):
+    def test_binomials(self):
+        self.assertEqual((comb(5, 2), comb(2, 3), comb(254, 5)), (10, 0, 8_468_125_050))
+
+    def test_numbers(self):
+        forms = {0: [0], 127: [127], 128: [128, 1], 300: [172, 2]}
+        for v, form in forms.items():
+            self.assertEqual(number_bytes(v), bytes(form))
+            self.assertEqual(read_number(bytes(form), 0), (v, len(form)))
+        self.assertEqual(refusal(read_number, bytes([128, 0]), 0), (2, 0))
+        self.assertEqual(refusal(read_number, bytes([128] * 4), 0), (2, 0))
+        self.assertEqual(refusal(read_number, bytes([128] * 3), 0), (1, 3))
+        self.assertEqual(refusal(read_number, b"", 9), (1, 0))
+
+    def test_pack(self):
+        self.assertEqual(len(P), 36)
+        self.assertEqual(check_pack(P)["n"], 7)
+        self.assertEqual(refusal(check_pack, P[:-3] + bytes([2, 4, 6])), (7, 27))
+
+    def test_orders(self):
+        for s, k, b, f, counts in [(2, 2, 7, 6, None), (2, 3, 7, 4, None), (2, 3, 9, 5, (2, 7)), (2, 2, 9, 7, (0, 9)),
+                                   (3, 4, 7, 5, None), (2, 2, 1, 0, None)]:
+            out, figure_, found = plan(P, s, k, b)
+            self.assertEqual(figure_, f)
+            self.assertEqual(check_placement(out)["F"], f)
+            if counts:
+                self.assertEqual(found, counts)
+        self.assertEqual(plan(P, 2, 3, 9)[0], NINE)
+        self.assertEqual(len(NINE), 38)
+        self.assertEqual(refusal(plan, P, 2, 3, 4097), (12, 2))
+        self.assertEqual(check_placement(plan(P, 2, 3, 4096)[0])["b"], 4096)
+
+    def test_programs(self):
+        self.assertEqual(check_reply(NINE), b"accepted 5 9 3 7 4 4\n")
+        self.assertEqual(plan_reply(bytes([2, 3, 9]) + P), NINE)
+        self.assertEqual(plan_reply(bytes([2, 128])), b"refused 12 1\n")
+        self.assertEqual(plan_reply(bytes([2, 3, 9])), b"refused 1 0\n")
+        self.assertEqual(len(walk(NINE)), 9)
+
+
+class BruteForce(unittest.TestCase):
+    def packs(self, seed, many):
+        """Random packs whose mu is the largest number of rows with one set together."""
+        draw = random.Random(seed)
+        for _ in range(many):
+            n = draw.randint(3, 8)
+            r = draw.randint(2, min(5, n))
+            head, body = [1, n, r], []
+            for x in range(r):
+                rows = [tuple(sorted(draw.sample(range(n), r))) for _ in range(draw.choice([0, 1, 2, 3, 5]))]
+                mu = max([1] + [together(rows, row[:x + 1]) for row in rows])
+                while refusal_of_layer(rows, x, mu):
+                    mu += 1
+                head += [mu, len(rows)]
+                body += [node for row in rows for node in row]
+            yield bytes(head + body), n, r
+
+    def test_best_split_and_worst_case(self):
+        draw = random.Random(31)
+        planned = 0
+        for data, n, r in self.packs(17, 150):
+            s = draw.randint(1, r)
+            if s > n - 1:
+                continue
+            k, b = draw.randint(s, n - 1), draw.randint(1, 6)
+            try:
+                out, f, counts = plan(data, s, k, b)
+            except Refused as e:
+                self.assertEqual((e.number, e.place), (9, 0))
+                continue
+            layers = check_pack(data)["layers"]
+            self.assertEqual(counts, named_split_by_force(layers, s, k, b))
+            self.assertEqual(counts, named_split(layers, s, k, b))
+            placement = check_placement(out)
+            self.assertEqual(placement["F"], f)
+            self.assertGreaterEqual(worst_case(placement), f)
+            planned += 1
+        self.assertGreater(planned, 60)
+
+    def test_figure_has_one_floor_a_layer(self):
+        self.assertEqual(figure(3, 5, 20, [(1, 9), (1, 9), (0, 2)]), 16)
+        self.assertEqual(figure(2, 3, 9, [(3, 2), (1, 7)]), 4)
+
+
+def refusal_of_layer(rows, x, mu):
+    from document01 import first_crowded
+    return first_crowded(rows, x, mu) is not None
+
+
+if __name__ == "__main__":
+    unittest.main()
