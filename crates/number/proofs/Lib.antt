@@ -1,1 +1,5 @@
+pub mod Lists
+pub mod Groups
+pub mod ReadGroups
+pub mod Reading
 pub mod Worked

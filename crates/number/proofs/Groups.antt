@@ -1,0 +1,69 @@
+-- What the groups of a number are: their count, their bytes. Assumes nothing.
+use Prim.Native.Nat.{ℕ, zero, suc, _+_, _*_, _/_, _%_, _≤_, _<_}
+use native.Mathlib.Omega.{arith}
+use native.Mathlib.Nat.{le-refl}
+use mathlib.Core.Path.{_≡_, refl}
+use mathlib.Core.List.{List, [], _∷_}
+use lib.ListN.{length}
+use lib.Dec.{ltb}
+use borrow.Author.Tests.{ltb-true, ltb-false, lt-ltb, le-ltb}
+use Rattle.number.specs.Numbers.{groups, Bytes}
+use Rattle.number.proofs.Lists.{cond-elim}
+
+-- how many numbers n groups of seven bits hold
+abbrev pub capacity : ℕ → ℕ
+capacity zero = 1
+capacity (suc n) = 128 * capacity n
+
+pub capacity-pos : (n : ℕ) → 0 < capacity n
+capacity-pos zero = le-refl 1
+capacity-pos (suc n) = omega (arith, capacity-pos n)
+
+-- a number below 128 is its own group
+pub groups-small : (more v : ℕ) → v < 128 → groups more v ≡ v ∷ []
+unfolding groups
+groups-small zero v h = refl
+groups-small (suc more) v h = rw (lt-ltb v 128 h)
+
+-- a larger one has a group with the top bit, then the groups of what is left
+pub groups-large : (more v : ℕ) → 128 ≤ v → groups (suc more) v ≡ (128 + v % 128) ∷ groups more (v / 128)
+unfolding groups
+groups-large more v h = rw (le-ltb v 128 h)
+
+-- what holds in these two cases holds of the groups
+pub groups-elim : (P : List ℕ → Type 0) (more v : ℕ) → (v < 128 → P (v ∷ []))
+    → (128 ≤ v → P ((128 + v % 128) ∷ groups more (v / 128))) → P (groups (suc more) v)
+unfolding groups
+groups-elim P more v small large =
+    cond-elim P (ltb v 128) (λ e. small (ltb-true v 128 e)) (λ e. large (ltb-false v 128 e))
+
+-- at least one group
+pub groups-length-pos : (more v : ℕ) → 1 ≤ length (groups more v)
+unfolding groups
+groups-length-pos zero v = le-refl 1
+groups-length-pos (suc more) v = groups-elim (λ g. 1 ≤ length g) more v (λ h. omega arith) (λ h. omega arith)
+
+-- as many as have room for v suffice
+pub groups-length-le : (n more v : ℕ) → v < capacity (suc n) → n ≤ more → length (groups more v) ≤ suc n
+unfolding groups
+groups-length-le zero more v h le = let small : v < 128 = omega arith in rw groups-small (le-refl 1)
+groups-length-le (suc n) zero v h le = omega arith
+groups-length-le (suc n) (suc more) v h le =
+    groups-elim
+    (λ g. length g ≤ suc (suc n))
+    more
+    v
+    (λ small. omega arith)
+    (λ large. omega (arith, groups-length-le n more (v / 128) (omega arith) (omega arith)))
+
+-- where v fits, every group is a byte
+pub groups-bytes : (more v : ℕ) → v < capacity (suc more) → Bytes (groups more v)
+unfolding groups
+groups-bytes zero v h = (omega arith, tt)
+groups-bytes (suc more) v h =
+    groups-elim
+    Bytes
+    more
+    v
+    (λ small. (omega arith, tt))
+    (λ large. (omega arith, groups-bytes more (v / 128) (omega arith)))

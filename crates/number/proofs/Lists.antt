@@ -1,0 +1,41 @@
+-- General laws on lists and tests that the proofs on numbers use. Assumes nothing.
+use Prim.Native.Nat.{ℕ, zero, suc, _-_, _<_, suc-le-suc}
+use native.Mathlib.Nat.{not-suc-le-zero, le-of-suc-le-suc, zero-lt-suc, sub-zero, zero-sub, suc-sub-suc}
+use native.Mathlib.Omega.{arith}
+use mathlib.Core.Path.{_≡_, refl, sym, _∙_, ap}
+use mathlib.Core.Bool.{Bool, true, false, cond}
+use mathlib.Core.List.{List, [], _∷_}
+use lib.ListN.{length, getD, take, drop}
+use lib.Seq.{slice, take-nil, drop-nil, drop-cons}
+use Rattle.lists.specs.Lists.{All}
+
+-- What holds of both choices holds of the choice.
+pub cond-elim : {A : Type 0} (P : A → Type 0) (b : Bool) {x y : A} → (b ≡ true → P x) → (b ≡ false → P y) → P (cond b x y)
+cond-elim P true yes-case no-case = yes-case refl
+cond-elim P false yes-case no-case = no-case refl
+
+module _ {A : Type 0} where
+  pub all-getD : (P : A → Type 0) (l : List A) (i : ℕ) (d : A) → All P l → i < length l → P (getD l i d)
+  all-getD P [] i d h lt = absurd (not-suc-le-zero lt)
+  all-getD P (a ∷ l) zero d h lt = h .0
+  all-getD P (a ∷ l) (suc i) d h lt = all-getD P l i d (h .1) (le-of-suc-le-suc lt)
+
+  -- a list from place i on that has a first element: i is a place of the list, and that element stands there
+  pub lt-of-drop-cons : (l : List A) (i : ℕ) {a : A} {t : List A} → drop i l ≡ a ∷ t → i < length l
+  lt-of-drop-cons [] i {t = t} e =
+      let none : 0 ≡ suc (length t) = ap length (sym (drop-nil i) ∙ e) in
+      omega arith
+  lt-of-drop-cons (b ∷ l) zero e = zero-lt-suc (length l)
+  lt-of-drop-cons (b ∷ l) (suc i) e = suc-le-suc (lt-of-drop-cons l i e)
+
+  pub getD-of-drop-cons : (l : List A) (i : ℕ) (d : A) {a : A} {t : List A} → drop i l ≡ a ∷ t → getD l i d ≡ a
+  getD-of-drop-cons l i d e = cc (drop-cons l i d (lt-of-drop-cons l i e))
+
+  pub drop-suc-of-drop-cons : (l : List A) (i : ℕ) {a : A} {t : List A} → drop i l ≡ a ∷ t → drop (suc i) l ≡ t
+  drop-suc-of-drop-cons l i {a = a} e = cc (drop-cons l i a (lt-of-drop-cons l i e))
+
+  pub slice-eq-take-drop : (f t : ℕ) (l : List A) → slice f t l ≡ take (t - f) (drop f l)
+  slice-eq-take-drop zero t l = rw sub-zero
+  slice-eq-take-drop (suc f) zero l = rw zero-sub
+  slice-eq-take-drop (suc f) (suc t) [] = sym (take-nil (suc t - suc f))
+  slice-eq-take-drop (suc f) (suc t) (a ∷ l) = rw suc-sub-suc (slice-eq-take-drop f t l)
