@@ -3,3 +3,4 @@ pub mod Groups
 pub mod ReadGroups
 pub mod Reading
 pub mod Worked
+pub mod Forms

@@ -1,18 +1,22 @@
 -- Document 01, "Planning": the placement that is written, and the whole answer. Assumes nothing.
-use Prim.Native.Nat.{ℕ, suc, _+_, _*_}
+use Prim.Native.Nat.{ℕ, suc, _+_, _*_, _≤_, _<_}
 use mathlib.Core.Path.{_≡_}
 use mathlib.Core.Bool.{Bool, _&&_}
-use mathlib.Core.List.{List, map}
-use lib.ListN.{length, take, drop}
+use mathlib.Core.List.{List, [], map}
+use lib.ListN.{length, getD, take, drop}
 use lib.Dec.{leb, ltb}
 use Rattle.lists.specs.Lists.{any, upTo}
 use Rattle.refusal.specs.declared.Refusal.the-variants.{BadOrder, NoBlock, ShortWork, ShortOutput}
 use Rattle.refusal.specs.Checked.{Checked, accepted, refused, _>>=_, require, mapAccepted, written}
 use Rattle.packing.specs.Rows.{repeated}
-use Rattle.layers.specs.Layers.{Layer, size}
+use Rattle.layers.specs.Layers.{Layer, LayerHead, headsOf}
 use Rattle.pack.specs.Pack.{Pack, checkPack}
 use Rattle.placement.specs.Placement.{Placement, placementBytes}
-use Rattle.planner.specs.Splits.{Share, layerAt, splitFigure, namedSplit}
+use Rattle.planner.specs.Splits.{Share, splitFigure, namedSplit}
+
+-- layer x of a pack; none where there is no such layer
+abbrev pub blocksAt : List Layer → ℕ → Layer
+blocksAt layers x = getD layers x (record { bound = 0; rows = [] })
 
 -- one layer of a split's placement: "its lambda is d × mu"
 abbrev pub placed : Layer → Share → Layer
@@ -28,17 +32,26 @@ splitPlacement pack s k b split =
       s = s;
       k = k;
       b = b;
-      figure = splitFigure (pack .layers) s k b split;
-      layers = map (λ x. placed (layerAt (pack .layers) x) (split x)) (upTo s);
+      figure = splitFigure (headsOf (pack .layers)) s k b split;
+      layers = map (λ x. placed (blocksAt (pack .layers) x) (split x)) (upTo s);
     }
 
 -- demand 2: "the one placement that 01 names"
 unfoldable pub namedPlacement : Pack → (s k b : ℕ) → Placement
-namedPlacement pack s k b = splitPlacement pack s k b (namedSplit (pack .layers) s k b)
+namedPlacement pack s k b = splitPlacement pack s k b (namedSplit (headsOf (pack .layers)) s k b)
 
 -- some layer below s has a block
-unfoldable pub hasBlock : List Layer → (s : ℕ) → Bool
-hasBlock layers s = any (λ layer. ltb 0 (size layer)) (take s layers)
+unfoldable pub hasBlock : List LayerHead → (s : ℕ) → Bool
+hasBlock layers s = any (λ layer. ltb 0 (layer .size)) (take s layers)
+
+-- demand 3: "every s, k and b within limits": "s 1..r; k s..n-1; b 1..4,096"
+pub record OrderLimits (pack : Pack) (s k b : ℕ) : Type 0 where
+  pub s-least : 1 ≤ s
+  pub s-most : s ≤ pack .r
+  pub k-least : s ≤ k
+  pub k-most : k < pack .n
+  pub b-least : 1 ≤ b
+  pub b-most : b ≤ 4_096
 
 -- "s 1..r; k s..n-1; b 1..4,096"; "s, k or b outside limits": refusal 12, place "0, 1 or 2 in that order"
 unfoldable pub checkOrder : Pack → (s k b : ℕ) → Checked Unit
@@ -52,7 +65,7 @@ unfoldable pub planned : (bytes : List ℕ) (s k b : ℕ) → Checked Placement
 planned bytes s k b = do
   pack ← checkPack bytes
   _ ← checkOrder pack s k b
-  _ ← require (hasBlock (pack .layers) s) NoBlock
+  _ ← require (hasBlock (headsOf (pack .layers)) s) NoBlock
   accepted (namedPlacement pack s k b)
 
 -- "the working slice of 16-bit numbers at least s × (b+1) entries"

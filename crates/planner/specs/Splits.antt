@@ -1,5 +1,5 @@
--- Document 01, "Planning": splits, and the one that is named. A split is a function of the layer's number x; only the
--- layers below s count. Assumes nothing.
+-- Document 01, "Planning": splits, and the one that is named. Of a pack's layers a split looks at mu and m alone. It is a
+-- function of the layer's number x; only the layers below s count. Assumes nothing.
 use Prim.Native.Nat.{ℕ, zero, suc, _+_, _*_, _-_, _/_, _≤_, _<_, min}
 use mathlib.Core.Path.{_≡_}
 use mathlib.Core.Logic.{_⊎_}
@@ -8,12 +8,12 @@ use mathlib.Core.List.{List, [], _∷_, _++_, map}
 use lib.ListN.{length, getD}
 use lib.Dec.{leb, ltb, eqb}
 use Rattle.lists.specs.Lists.{total, upTo}
-use Rattle.layers.specs.Layers.{Layer, LayerHead, size, sizes}
+use Rattle.layers.specs.Layers.{LayerHead, sizes}
 use Rattle.placement.specs.Figure.{loss, figureOf}
 
--- the blocks of layer x with their mu; none where there is no such layer
-abbrev pub layerAt : List Layer → ℕ → Layer
-layerAt layers x = getD layers x (record { bound = 0; rows = [] })
+-- mu and m of layer x; 0 and 0 where there is no such layer
+abbrev pub layerAt : List LayerHead → ℕ → LayerHead
+layerAt layers x = getD layers x (record { bound = 0; size = 0 })
 
 -- one layer's part of a split: "a count c and whole copies d"
 pub record Share : Type 0 where
@@ -21,20 +21,20 @@ pub record Share : Type 0 where
   pub copies : ℕ
 
 -- "its lambda is d × mu"
-abbrev pub shareHead : Layer → Share → LayerHead
-shareHead blocks share = record { bound = share .copies * blocks .bound; size = share .count }
+abbrev pub shareHead : LayerHead → Share → LayerHead
+shareHead layer share = record { bound = share .copies * layer .bound; size = share .count }
 
 -- the two numbers of each layer of the split's placement
-abbrev pub splitHeads : List Layer → (s : ℕ) → (ℕ → Share) → List LayerHead
+abbrev pub splitHeads : List LayerHead → (s : ℕ) → (ℕ → Share) → List LayerHead
 splitHeads layers s split = map (λ x. shareHead (layerAt layers x) (split x)) (upTo s)
 
 -- "A split gives each layer below s a count c and whole copies d, with c at most d × m and the counts summing to b"
-pub record Split (layers : List Layer) (s b : ℕ) (split : ℕ → Share) : Type 0 where
-  pub held : (x : ℕ) → x < s → split x .count ≤ split x .copies * size (layerAt layers x)
+pub record Split (layers : List LayerHead) (s b : ℕ) (split : ℕ → Share) : Type 0 where
+  pub held : (x : ℕ) → x < s → split x .count ≤ split x .copies * layerAt layers x .size
   pub sum : sizes (splitHeads layers s split) ≡ b
 
 -- "Its figure is b less the losses."
-abbrev pub splitFigure : List Layer → (s k b : ℕ) → (ℕ → Share) → ℕ
+abbrev pub splitFigure : List LayerHead → (s k b : ℕ) → (ℕ → Share) → ℕ
 splitFigure layers s k b split = figureOf s k b (splitHeads layers s split)
 
 -- "the largest c in layer s-1, then in layer s-2, down to 0": the counts come no later than the other's
@@ -45,29 +45,29 @@ Foremost (suc x) split other =
 
 -- "Of the splits with the highest figure the planner takes the one with the largest c in layer s-1, then in layer s-2,
 -- down to 0, with the least d for each c."
-pub record Named (layers : List Layer) (s k b : ℕ) (split : ℕ → Share) : Type 0 where
+pub record Named (layers : List LayerHead) (s k b : ℕ) (split : ℕ → Share) : Type 0 where
   pub is-split : Split layers s b split
   pub highest : (other : ℕ → Share) → Split layers s b other → splitFigure layers s k b other ≤ splitFigure layers s k b split
   pub foremost : (other : ℕ → Share) → Split layers s b other →
       splitFigure layers s k b other ≡ splitFigure layers s k b split → Foremost s split other
-  pub least-copies : (x d : ℕ) → x < s → split x .count ≤ d * size (layerAt layers x) → split x .copies ≤ d
+  pub least-copies : (x d : ℕ) → x < s → split x .count ≤ d * layerAt layers x .size → split x .copies ≤ d
 
 -- "the least d" for c records on m blocks; none for no records
 abbrev pub copiesFor : (c m : ℕ) → ℕ
 copiesFor c m = (c + (m - 1)) / m
 
-abbrev pub shareOf : Layer → (c : ℕ) → Share
-shareOf blocks c = record { count = c; copies = copiesFor c (size blocks) }
+abbrev pub shareOf : LayerHead → (c : ℕ) → Share
+shareOf layer c = record { count = c; copies = copiesFor c (layer .size) }
 
 -- more than the loss of any split of at most 4,096 records: it stands for records in a layer that has no block
 abbrev pub noSplit : ℕ
 noSplit = 8_192
 
 -- what c records in layer x lose, with the least copies
-unfoldable pub lossOf : List Layer → (s k x c : ℕ) → ℕ
+unfoldable pub lossOf : List LayerHead → (s k x c : ℕ) → ℕ
 lossOf layers s k x c =
-    let blocks = layerAt layers x in
-    cond (eqb (size blocks) 0 && ltb 0 c) noSplit (loss s k x (shareHead blocks (shareOf blocks c)))
+    let layer = layerAt layers x in
+    cond (eqb (layer .size) 0 && ltb 0 c) noSplit (loss s k x (shareHead layer (shareOf layer c)))
 
 -- the least of f 0, .., f top
 unfoldable pub least : (ℕ → ℕ) → (top : ℕ) → ℕ
@@ -80,21 +80,21 @@ lastLeast f zero = zero
 lastLeast f (suc c) = cond (leb (f (suc c)) (least f c)) (suc c) (lastLeast f c)
 
 -- the least loss of b records in the layers below x
-unfoldable pub leastLoss : List Layer → (s k x b : ℕ) → ℕ
+unfoldable pub leastLoss : List LayerHead → (s k x b : ℕ) → ℕ
 leastLoss layers s k zero b = cond (eqb b 0) 0 noSplit
 leastLoss layers s k (suc x) b = least (λ c. lossOf layers s k x c + leastLoss layers s k x (b - c)) b
 
 -- the count of layer x, of b records in the layers up to x: the largest that leaves the least loss
-unfoldable pub bestCount : List Layer → (s k x b : ℕ) → ℕ
+unfoldable pub bestCount : List LayerHead → (s k x b : ℕ) → ℕ
 bestCount layers s k x b = lastLeast (λ c. lossOf layers s k x c + leastLoss layers s k x (b - c)) b
 
 -- the counts of the layers below x that share b records, layer 0 first
-unfoldable pub namedCounts : List Layer → (s k x b : ℕ) → List ℕ
+unfoldable pub namedCounts : List LayerHead → (s k x b : ℕ) → List ℕ
 namedCounts layers s k zero b = []
 namedCounts layers s k (suc x) b =
     let c = bestCount layers s k x b in
     namedCounts layers s k x (b - c) ++ (c ∷ [])
 
 -- the named split, computed
-unfoldable pub namedSplit : List Layer → (s k b : ℕ) → ℕ → Share
+unfoldable pub namedSplit : List LayerHead → (s k b : ℕ) → ℕ → Share
 namedSplit layers s k b x = shareOf (layerAt layers x) (getD (namedCounts layers s k s b) x 0)

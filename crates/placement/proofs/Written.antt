@@ -1,0 +1,83 @@
+-- A good placement's bytes are its file, and at most 64 of them stand before the rows. Assumes nothing.
+use Prim.Native.Nat.{ℕ, _+_, _*_, _-_, _≤_, _<_}
+use native.Mathlib.Omega.{arith}
+use mathlib.Core.Path.{_≡_, refl, sym, _∙_, ap, subst}
+use mathlib.Core.List.{List, [], _∷_, _++_, map, flatten}
+use lib.ListN.{length, length-append}
+use lib.Dec.{T, ltb, ltb→lt}
+use Rattle.lists.specs.Lists.{All, every}
+use Rattle.lists.proofs.Alls.{all-append, all-imp, all-flatten, every-all}
+use Rattle.lists.proofs.Tests.{and-right}
+use Rattle.number.specs.Numbers.{Bytes, Forms, largestNumber, numberBytes}
+use Rattle.number.proofs.Reading.{numberBytes-length-one, numberBytes-length-le-two}
+use Rattle.number.proofs.Forms.{forms-of, forms-bytes}
+use Rattle.packing.specs.Rows.{Row, ascending, inOrder}
+use Rattle.layers.specs.Layers.{Layer, sizes, allRows, headsOf, headNumbers}
+use Rattle.layers.proofs.Lengths.{length-flatten-rows, length-allRows, length-headNumbers, headNumbers-most}
+use Rattle.placement.specs.Figure.{losses, figureOf}
+use Rattle.placement.specs.Placement.{Placement, PlacementLimits, GoodPlacement, placementNumbers, PlacementFile, placementBytes}
+
+-- a row's nodes are bytes
+row-bytes : (n r : ℕ) → n ≤ 255 → (row : List ℕ) → Row n r row → Bytes row
+row-bytes n r small row h =
+    all-imp (λ v. T (ltb v n)) (λ v. v < 256) (λ v t. below v (ltb→lt v n t)) row
+    (every-all (λ v. ltb v n) row (and-right (ascending 0 row) (every (λ v. ltb v n) row) (h .1)))
+  where
+    below : (v : ℕ) → v < n → v < 256
+    below v lt = omega arith
+
+module _ (p : Placement) (good : GoodPlacement p) where
+  -- "F (0..b)"
+  pub figure-le : p .figure ≤ p .b
+  unfolding figureOf
+  figure-le = omega (arith, good .formula)
+
+  bounds-most : All (λ layer. layer .bound ≤ largestNumber) (p .layers)
+  bounds-most = all-imp (λ layer. layer .bound ≤ 16_777_216) _ (λ layer h. omega arith) (p .layers) (good .limits .lambda-most)
+
+  numbers-most : All (λ v. v ≤ largestNumber) (placementNumbers p)
+  numbers-most =
+      let l = good .limits in
+      let f = figure-le in
+      (omega arith, (omega arith, (omega arith, (omega arith, (omega arith, (omega arith, (omega arith, headNumbers-most (p .layers) bounds-most (omega arith))))))))
+
+  -- what is written is the placement's file
+  pub written-file : PlacementFile p (placementBytes p)
+  unfolding placementBytes
+  written-file = (flatten (map numberBytes (placementNumbers p)), forms-of (placementNumbers p) numbers-most, refl)
+
+  pub written-bytes : Bytes (placementBytes p)
+  unfolding placementBytes
+  written-bytes =
+      all-append _ (flatten (map numberBytes (placementNumbers p))) (flatten (allRows (p .layers)))
+      (forms-bytes (placementNumbers p) _ (forms-of (placementNumbers p) numbers-most))
+      (all-flatten _ (allRows (p .layers)) (all-imp _ Bytes (row-bytes (p .n) (p .r) (good .limits .n-most)) (allRows (p .layers)) (good .rows)))
+
+  rows-length : length (flatten (allRows (p .layers))) ≡ p .b * p .r
+  rows-length =
+      length-flatten-rows (p .r) (allRows (p .layers)) (all-imp _ _ (λ row h. h .0) (allRows (p .layers)) (good .rows))
+      ∙ ap (λ n. n * p .r) (length-allRows (p .layers) ∙ good .limits .records-all)
+
+  head-length : length (flatten (map numberBytes (placementNumbers p))) ≤ 64
+  unfolding flatten
+  head-length =
+      let l = good .limits in
+      let f = figure-le in
+      simp length-append
+      (omega (
+        arith,
+        numberBytes-length-one 2 (omega arith),
+        numberBytes-length-le-two (p .n) (omega arith),
+        numberBytes-length-le-two (p .r) (omega arith),
+        numberBytes-length-le-two (p .s) (omega arith),
+        numberBytes-length-le-two (p .k) (omega arith),
+        numberBytes-length-le-two (p .b) (omega arith),
+        numberBytes-length-le-two (p .figure) (omega arith),
+        length-headNumbers (p .layers) bounds-most (omega arith),
+      ))
+
+  -- "The output must have at least 64 + b × r bytes": enough for the whole file
+  pub written-length : length (placementBytes p) ≤ 64 + p .b * p .r
+  unfolding placementBytes
+  written-length =
+      rw (length-append (flatten (map numberBytes (placementNumbers p)))) (omega (arith, head-length, rows-length))

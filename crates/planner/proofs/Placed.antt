@@ -1,0 +1,125 @@
+-- The placement of a split of an accepted pack is one that document 01 accepts. Assumes nothing.
+use Prim.Native.Nat.{ℕ, zero, suc, _+_, _*_, _≤_, _<_, suc-le-suc}
+use native.Mathlib.Omega.{arith}
+use native.Mathlib.Nat.{not-suc-le-zero, le-of-suc-le-suc, zero-lt-suc, add-zero, suc-add, add-suc}
+use mathlib.Core.Path.{_≡_, refl, sym, _∙_, ap, subst}
+use mathlib.Core.List.{List, [], _∷_, _++_, map, flatten}
+use lib.ListN.{length, getD}
+use Rattle.lists.specs.Lists.{All, upTo}
+use Rattle.lists.proofs.Alls.{all-append-left, all-append-right, all-map, all-flatten}
+use Rattle.lists.proofs.UpTo.{length-map-upTo, all-upTo, getD-map-upTo, map-upTo-congr}
+use Rattle.packing.specs.Rows.{Row, Packing, repeated}
+use Rattle.layers.specs.Layers.{Layer, LayerHead, size, sizes, allRows, headsOf, Packings}
+use Rattle.pack.specs.Pack.{Pack, PackLimits, GoodPack}
+use Rattle.placement.specs.Figure.{figureOf}
+use Rattle.placement.specs.Placement.{Placement, PlacementLimits, GoodPlacement}
+use Rattle.planner.specs.Splits.{Share, layerAt, shareHead, splitHeads, Split, splitFigure}
+use Rattle.planner.specs.Planning.{blocksAt, placed, splitPlacement, OrderLimits}
+
+-- map after map
+map-map : {A B C : Type 0} (g : B → C) (f : A → B) (l : List A) → map g (map f l) ≡ map (λ a. g (f a)) l
+map-map g f [] = refl
+map-map g f (a ∷ l) = ap (λ t. g (f a) ∷ t) (map-map g f l)
+
+-- what holds of all rows holds of one layer's
+layer-rows : (P : List ℕ → Type 0) (layers : List Layer) (x : ℕ) → All P (allRows layers) → All P (blocksAt layers x .rows)
+unfolding flatten
+layer-rows P [] x h = tt
+layer-rows P (layer ∷ layers) zero h = all-append-left P (layer .rows) (allRows layers) h
+layer-rows P (layer ∷ layers) (suc x) h = layer-rows P layers x (all-append-right P (layer .rows) (allRows layers) h)
+
+-- what holds of all layers holds of one
+layer-all : (P : Layer → Type 0) (layers : List Layer) (x : ℕ) → P (record { bound = 0; rows = [] }) → All P layers → P (blocksAt layers x)
+layer-all P [] x d h = d
+layer-all P (layer ∷ layers) zero d h = h .0
+layer-all P (layer ∷ layers) (suc x) d h = layer-all P layers x d (h .1)
+
+-- layer x's two numbers
+pub layerAt-heads : (layers : List Layer) (x : ℕ) → layerAt (headsOf layers) x ≡ record { bound = blocksAt layers x .bound; size = size (blocksAt layers x) }
+layerAt-heads [] x = refl
+layerAt-heads (layer ∷ layers) zero = refl
+layerAt-heads (layer ∷ layers) (suc x) = layerAt-heads layers x
+
+-- the packings of the layers from o on, layer by layer
+packing-at : (o : ℕ) (layers : List Layer) (x : ℕ) → x < length layers → Packings o layers → Packing (o + x) (blocksAt layers x .bound) (blocksAt layers x .rows)
+packing-at o [] x lt h = absurd (not-suc-le-zero lt)
+packing-at o (layer ∷ layers) zero lt h = rw (add-zero o) (h .0)
+packing-at o (layer ∷ layers) (suc x) lt h =
+    rw (add-suc o x, ← suc-add o x) (packing-at (suc o) layers x (le-of-suc-le-suc lt) (h .1))
+
+packings-from : (o : ℕ) (layers : List Layer) → ((x : ℕ) → x < length layers → Packing (o + x) (blocksAt layers x .bound) (blocksAt layers x .rows)) → Packings o layers
+packings-from o [] h = tt
+packings-from o (layer ∷ layers) h = (
+  rw (add-zero o) at (h zero (zero-lt-suc _)),
+  packings-from (suc o) layers (λ x lt. rw (suc-add o x, ← add-suc o x) (h (suc x) (suc-le-suc lt))),
+)
+
+module _ (copies-packing : (x mu d c : ℕ) (blocks : List (List ℕ)) → c ≤ d * length blocks → Packing x mu blocks → Packing x (d * mu) (repeated blocks c))
+    (repeated-rows : (P : List ℕ → Type 0) (d c : ℕ) (blocks : List (List ℕ)) → c ≤ d * length blocks → All P blocks → All P (repeated blocks c))
+    (length-repeated : (blocks : List (List ℕ)) (c : ℕ) → length (repeated blocks c) ≡ c) where
+  module _ (pack : Pack) (s k b : ℕ) (split : ℕ → Share) where
+    -- layer x of the split's placement
+    abbrev placedAt : ℕ → Layer
+    placedAt x = placed (blocksAt (pack .layers) x) (split x)
+
+    placed-head : (x : ℕ) → _≡_ {A = LayerHead} (record { bound = placedAt x .bound; size = size (placedAt x) }) (shareHead (layerAt (headsOf (pack .layers)) x) (split x))
+    placed-head x = rw (length-repeated (blocksAt (pack .layers) x .rows) (split x .count), layerAt-heads (pack .layers) x)
+
+    -- the placement's head numbers are the split's
+    pub heads-placed : headsOf (map placedAt (upTo s)) ≡ splitHeads (headsOf (pack .layers)) s split
+    heads-placed =
+        map-map (λ layer. record { bound = layer .bound; size = size layer }) placedAt (upTo s)
+        ∙ map-upTo-congr _ _ s (λ x lt. placed-head x)
+
+    module _ (good : GoodPack pack) (order : OrderLimits pack s k b) (is : Split (headsOf (pack .layers)) s b split) (lambdas : (x : ℕ) → x < s → split x .copies * layerAt (headsOf (pack .layers)) x .bound ≤ 16_777_216) where
+      held : (x : ℕ) → x < s → split x .count ≤ split x .copies * size (blocksAt (pack .layers) x)
+      held x lt = rw (layerAt-heads (pack .layers) x) at (is .held x lt)
+
+      placed-limits : PlacementLimits (splitPlacement pack s k b split)
+      unfolding splitPlacement
+      placed-limits =
+          record {
+            n-least = good .limits .n-least;
+            n-most = good .limits .n-most;
+            r-least = good .limits .r-least;
+            r-most = good .limits .r-most;
+            r-nodes = good .limits .r-nodes;
+            s-least = order .s-least;
+            s-most = order .s-most;
+            k-least = order .k-least;
+            k-most = order .k-most;
+            b-least = order .b-least;
+            b-most = order .b-most;
+            layer-each = length-map-upTo placedAt s;
+            lambda-most = all-map _ placedAt (upTo s) (all-upTo _ s (λ x lt. rw (layerAt-heads (pack .layers) x) at (lambdas x lt)));
+            records-all = rw heads-placed (is .sum);
+          }
+
+      placed-rows : All (Row (pack .n) (pack .r)) (allRows (map placedAt (upTo s)))
+      placed-rows =
+          all-flatten (Row (pack .n) (pack .r)) (map (λ layer. layer .rows) (map placedAt (upTo s)))
+          (rw (map-map (λ layer. layer .rows) placedAt (upTo s))
+          (all-map _ (λ x. placedAt x .rows) (upTo s) (all-upTo _ s each)))
+        where
+          each : (x : ℕ) → x < s → All (Row (pack .n) (pack .r)) (placedAt x .rows)
+          each x lt =
+              repeated-rows _ (split x .copies) (split x .count) (blocksAt (pack .layers) x .rows) (held x lt)
+              (layer-rows (Row (pack .n) (pack .r)) (pack .layers) x (good .rows))
+
+      placed-packings : Packings 0 (map placedAt (upTo s))
+      placed-packings = packings-from 0 (map placedAt (upTo s)) each
+        where
+          each : (x : ℕ) → x < length (map placedAt (upTo s)) → Packing (0 + x) (blocksAt (map placedAt (upTo s)) x .bound) (blocksAt (map placedAt (upTo s)) x .rows)
+          each x lt =
+              let below : x < s = subst (λ (m : ℕ). x < m) (length-map-upTo placedAt s) lt in
+              let within : x < length (pack .layers) = omega (arith, good .limits .layer-each, order .s-most) in
+              subst (λ (layer : Layer). Packing (0 + x) (layer .bound) (layer .rows))
+              (sym (getD-map-upTo placedAt s x (record { bound = 0; rows = [] }) below))
+              (copies-packing (0 + x) (blocksAt (pack .layers) x .bound) (split x .copies) (split x .count) (blocksAt (pack .layers) x .rows) (held x below)
+              (packing-at 0 (pack .layers) x within (good .packings)))
+
+      -- the split's placement is good
+      pub placed-good : GoodPlacement (splitPlacement pack s k b split)
+      unfolding splitPlacement
+      placed-good =
+          record { limits = placed-limits; rows = placed-rows; packings = placed-packings; formula = ap (figureOf s k b) (sym heads-placed) }
