@@ -13,7 +13,7 @@ use Rattle.layers.specs.Layers.{Layer, LayerHead, size, sizes, allRows, headsOf
 use Rattle.pack.specs.Pack.{Pack, PackLimits, GoodPack}
 use Rattle.placement.specs.Figure.{figureOf}
 use Rattle.placement.specs.Placement.{Placement, PlacementLimits, GoodPlacement}
-use Rattle.planner.specs.Splits.{Share, layerAt, shareHead, splitHeads, Split, splitFigure}
+use Rattle.split.specs.Splits.{Share, layerAt, shareHead, splitHeads, Split, splitFigure}
 use Rattle.planner.specs.Planning.{blocksAt, placed, splitPlacement, OrderLimits}
 
 -- map after map

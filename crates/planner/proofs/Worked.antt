@@ -15,8 +15,8 @@ use Rattle.pack.specs.SevenCabinets.{packBytes}
 use Rattle.placement.specs.Figure.{loss, losses, figureOf}
 use Rattle.placement.specs.Placement.{Placement, placementBytes}
 use Rattle.placement.specs.SevenCabinets.{placementFile, sevenPlacement}
-use Rattle.planner.specs.Splits.{lossOf, least, lastLeast, leastLoss, bestCount, namedCounts, namedSplit}
-use Rattle.planner.specs.Planning.{splitPlacement, namedPlacement, hasBlock, checkOrder, planned, plan}
+use Rattle.split.specs.Splits.{lossOf, least, lastLeast, leastLoss, bestCount, namedCounts, namedSplit, hasBlock}
+use Rattle.planner.specs.Planning.{splitPlacement, namedPlacement, checkOrder, planned, plan}
 
 -- the placement that an order of P gives
 abbrev pub orderOf : (s k b : ℕ) → Checked Placement

@@ -1,18 +1,18 @@
 -- Document 01, "Planning": the placement that is written, and the whole answer. Assumes nothing.
 use Prim.Native.Nat.{ℕ, suc, _+_, _*_, _≤_, _<_}
 use mathlib.Core.Path.{_≡_}
-use mathlib.Core.Bool.{Bool, _&&_}
+use mathlib.Core.Bool.{_&&_}
 use mathlib.Core.List.{List, [], map}
-use lib.ListN.{length, getD, take, drop}
+use lib.ListN.{length, getD, drop}
 use lib.Dec.{leb, ltb}
-use Rattle.lists.specs.Lists.{any, upTo}
+use Rattle.lists.specs.Lists.{upTo}
 use Rattle.refusal.specs.declared.Refusal.the-variants.{BadOrder, NoBlock, ShortWork, ShortOutput}
 use Rattle.refusal.specs.Checked.{Checked, accepted, refused, _>>=_, require, mapAccepted, written}
 use Rattle.packing.specs.Rows.{repeated}
-use Rattle.layers.specs.Layers.{Layer, LayerHead, headsOf}
+use Rattle.layers.specs.Layers.{Layer, headsOf}
 use Rattle.pack.specs.Pack.{Pack, checkPack}
 use Rattle.placement.specs.Placement.{Placement, placementBytes}
-use Rattle.planner.specs.Splits.{Share, splitFigure, namedSplit}
+use Rattle.split.specs.Splits.{Share, splitFigure, hasBlock, namedSplit}
 
 -- layer x of a pack; none where there is no such layer
 abbrev pub blocksAt : List Layer → ℕ → Layer
@@ -39,10 +39,6 @@ splitPlacement pack s k b split =
 -- demand 2: "the one placement that 01 names"
 unfoldable pub namedPlacement : Pack → (s k b : ℕ) → Placement
 namedPlacement pack s k b = splitPlacement pack s k b (namedSplit (headsOf (pack .layers)) s k b)
-
--- some layer below s has a block
-unfoldable pub hasBlock : List LayerHead → (s : ℕ) → Bool
-hasBlock layers s = any (λ layer. ltb 0 (layer .size)) (take s layers)
 
 -- demand 3: "every s, k and b within limits": "s 1..r; k s..n-1; b 1..4,096"
 pub record OrderLimits (pack : Pack) (s k b : ℕ) : Type 0 where

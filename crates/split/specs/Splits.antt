@@ -5,15 +5,19 @@ use mathlib.Core.Path.{_≡_}
 use mathlib.Core.Logic.{_⊎_}
 use mathlib.Core.Bool.{Bool, cond, _&&_}
 use mathlib.Core.List.{List, [], _∷_, _++_, map}
-use lib.ListN.{length, getD}
+use lib.ListN.{getD, take}
 use lib.Dec.{leb, ltb, eqb}
-use Rattle.lists.specs.Lists.{total, upTo}
+use Rattle.lists.specs.Lists.{any, upTo}
 use Rattle.layers.specs.Layers.{LayerHead, sizes}
 use Rattle.placement.specs.Figure.{loss, figureOf}
 
 -- mu and m of layer x; 0 and 0 where there is no such layer
 abbrev pub layerAt : List LayerHead → ℕ → LayerHead
 layerAt layers x = getD layers x (record { bound = 0; size = 0 })
+
+-- refusal 9 unless some layer below s has a block
+unfoldable pub hasBlock : List LayerHead → (s : ℕ) → Bool
+hasBlock layers s = any (λ layer. ltb 0 (layer .size)) (take s layers)
 
 -- one layer's part of a split: "a count c and whole copies d"
 pub record Share : Type 0 where

@@ -1,0 +1,1 @@
+// Splits of an order over a pack's layers.
