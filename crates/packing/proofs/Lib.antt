@@ -1,1 +1,5 @@
+pub mod Members
+pub mod Sets
+pub mod Test
+pub mod Copies
 pub mod Worked

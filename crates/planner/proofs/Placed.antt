@@ -9,6 +9,7 @@ use Rattle.lists.specs.Lists.{All, upTo}
 use Rattle.lists.proofs.Alls.{all-append-left, all-append-right, all-map, all-flatten}
 use Rattle.lists.proofs.UpTo.{length-map-upTo, all-upTo, getD-map-upTo, map-upTo-congr}
 use Rattle.packing.specs.Rows.{Row, Packing, repeated}
+use Rattle.packing.proofs.Copies.{copies-packing, repeated-rows, length-repeated}
 use Rattle.layers.specs.Layers.{Layer, LayerHead, size, sizes, allRows, headsOf, Packings}
 use Rattle.pack.specs.Pack.{Pack, PackLimits, GoodPack}
 use Rattle.placement.specs.Figure.{figureOf}
@@ -54,72 +55,69 @@ packings-from o (layer ∷ layers) h = (
   packings-from (suc o) layers (λ x lt. rw (suc-add o x, ← add-suc o x) (h (suc x) (suc-le-suc lt))),
 )
 
-module _ (copies-packing : (x mu d c : ℕ) (blocks : List (List ℕ)) → c ≤ d * length blocks → Packing x mu blocks → Packing x (d * mu) (repeated blocks c))
-    (repeated-rows : (P : List ℕ → Type 0) (d c : ℕ) (blocks : List (List ℕ)) → c ≤ d * length blocks → All P blocks → All P (repeated blocks c))
-    (length-repeated : (blocks : List (List ℕ)) (c : ℕ) → length (repeated blocks c) ≡ c) where
-  module _ (pack : Pack) (s k b : ℕ) (split : ℕ → Share) where
-    -- layer x of the split's placement
-    abbrev placedAt : ℕ → Layer
-    placedAt x = placed (blocksAt (pack .layers) x) (split x)
+module _ (pack : Pack) (s k b : ℕ) (split : ℕ → Share) where
+  -- layer x of the split's placement
+  abbrev placedAt : ℕ → Layer
+  placedAt x = placed (blocksAt (pack .layers) x) (split x)
 
-    placed-head : (x : ℕ) → _≡_ {A = LayerHead} (record { bound = placedAt x .bound; size = size (placedAt x) }) (shareHead (layerAt (headsOf (pack .layers)) x) (split x))
-    placed-head x = rw (length-repeated (blocksAt (pack .layers) x .rows) (split x .count), layerAt-heads (pack .layers) x)
+  placed-head : (x : ℕ) → _≡_ {A = LayerHead} (record { bound = placedAt x .bound; size = size (placedAt x) }) (shareHead (layerAt (headsOf (pack .layers)) x) (split x))
+  placed-head x = rw (length-repeated (blocksAt (pack .layers) x .rows) (split x .count), layerAt-heads (pack .layers) x)
 
-    -- the placement's head numbers are the split's
-    pub heads-placed : headsOf (map placedAt (upTo s)) ≡ splitHeads (headsOf (pack .layers)) s split
-    heads-placed =
-        map-map (λ layer. record { bound = layer .bound; size = size layer }) placedAt (upTo s)
-        ∙ map-upTo-congr _ _ s (λ x lt. placed-head x)
+  -- the placement's head numbers are the split's
+  pub heads-placed : headsOf (map placedAt (upTo s)) ≡ splitHeads (headsOf (pack .layers)) s split
+  heads-placed =
+      map-map (λ layer. record { bound = layer .bound; size = size layer }) placedAt (upTo s)
+      ∙ map-upTo-congr _ _ s (λ x lt. placed-head x)
 
-    module _ (good : GoodPack pack) (order : OrderLimits pack s k b) (is : Split (headsOf (pack .layers)) s b split) (lambdas : (x : ℕ) → x < s → split x .copies * layerAt (headsOf (pack .layers)) x .bound ≤ 16_777_216) where
-      held : (x : ℕ) → x < s → split x .count ≤ split x .copies * size (blocksAt (pack .layers) x)
-      held x lt = rw (layerAt-heads (pack .layers) x) at (is .held x lt)
+  module _ (good : GoodPack pack) (order : OrderLimits pack s k b) (is : Split (headsOf (pack .layers)) s b split) (lambdas : (x : ℕ) → x < s → split x .copies * layerAt (headsOf (pack .layers)) x .bound ≤ 16_777_216) where
+    held : (x : ℕ) → x < s → split x .count ≤ split x .copies * size (blocksAt (pack .layers) x)
+    held x lt = rw (layerAt-heads (pack .layers) x) at (is .held x lt)
 
-      placed-limits : PlacementLimits (splitPlacement pack s k b split)
-      unfolding splitPlacement
-      placed-limits =
-          record {
-            n-least = good .limits .n-least;
-            n-most = good .limits .n-most;
-            r-least = good .limits .r-least;
-            r-most = good .limits .r-most;
-            r-nodes = good .limits .r-nodes;
-            s-least = order .s-least;
-            s-most = order .s-most;
-            k-least = order .k-least;
-            k-most = order .k-most;
-            b-least = order .b-least;
-            b-most = order .b-most;
-            layer-each = length-map-upTo placedAt s;
-            lambda-most = all-map _ placedAt (upTo s) (all-upTo _ s (λ x lt. rw (layerAt-heads (pack .layers) x) at (lambdas x lt)));
-            records-all = rw heads-placed (is .sum);
-          }
+    placed-limits : PlacementLimits (splitPlacement pack s k b split)
+    unfolding splitPlacement
+    placed-limits =
+        record {
+          n-least = good .limits .n-least;
+          n-most = good .limits .n-most;
+          r-least = good .limits .r-least;
+          r-most = good .limits .r-most;
+          r-nodes = good .limits .r-nodes;
+          s-least = order .s-least;
+          s-most = order .s-most;
+          k-least = order .k-least;
+          k-most = order .k-most;
+          b-least = order .b-least;
+          b-most = order .b-most;
+          layer-each = length-map-upTo placedAt s;
+          lambda-most = all-map _ placedAt (upTo s) (all-upTo _ s (λ x lt. rw (layerAt-heads (pack .layers) x) at (lambdas x lt)));
+          records-all = rw heads-placed (is .sum);
+        }
 
-      placed-rows : All (Row (pack .n) (pack .r)) (allRows (map placedAt (upTo s)))
-      placed-rows =
-          all-flatten (Row (pack .n) (pack .r)) (map (λ layer. layer .rows) (map placedAt (upTo s)))
-          (rw (map-map (λ layer. layer .rows) placedAt (upTo s))
-          (all-map _ (λ x. placedAt x .rows) (upTo s) (all-upTo _ s each)))
-        where
-          each : (x : ℕ) → x < s → All (Row (pack .n) (pack .r)) (placedAt x .rows)
-          each x lt =
-              repeated-rows _ (split x .copies) (split x .count) (blocksAt (pack .layers) x .rows) (held x lt)
-              (layer-rows (Row (pack .n) (pack .r)) (pack .layers) x (good .rows))
+    placed-rows : All (Row (pack .n) (pack .r)) (allRows (map placedAt (upTo s)))
+    placed-rows =
+        all-flatten (Row (pack .n) (pack .r)) (map (λ layer. layer .rows) (map placedAt (upTo s)))
+        (rw (map-map (λ layer. layer .rows) placedAt (upTo s))
+        (all-map _ (λ x. placedAt x .rows) (upTo s) (all-upTo _ s each)))
+      where
+        each : (x : ℕ) → x < s → All (Row (pack .n) (pack .r)) (placedAt x .rows)
+        each x lt =
+            repeated-rows _ (split x .copies) (split x .count) (blocksAt (pack .layers) x .rows) (held x lt)
+            (layer-rows (Row (pack .n) (pack .r)) (pack .layers) x (good .rows))
 
-      placed-packings : Packings 0 (map placedAt (upTo s))
-      placed-packings = packings-from 0 (map placedAt (upTo s)) each
-        where
-          each : (x : ℕ) → x < length (map placedAt (upTo s)) → Packing (0 + x) (blocksAt (map placedAt (upTo s)) x .bound) (blocksAt (map placedAt (upTo s)) x .rows)
-          each x lt =
-              let below : x < s = subst (λ (m : ℕ). x < m) (length-map-upTo placedAt s) lt in
-              let within : x < length (pack .layers) = omega (arith, good .limits .layer-each, order .s-most) in
-              subst (λ (layer : Layer). Packing (0 + x) (layer .bound) (layer .rows))
-              (sym (getD-map-upTo placedAt s x (record { bound = 0; rows = [] }) below))
-              (copies-packing (0 + x) (blocksAt (pack .layers) x .bound) (split x .copies) (split x .count) (blocksAt (pack .layers) x .rows) (held x below)
-              (packing-at 0 (pack .layers) x within (good .packings)))
+    placed-packings : Packings 0 (map placedAt (upTo s))
+    placed-packings = packings-from 0 (map placedAt (upTo s)) each
+      where
+        each : (x : ℕ) → x < length (map placedAt (upTo s)) → Packing (0 + x) (blocksAt (map placedAt (upTo s)) x .bound) (blocksAt (map placedAt (upTo s)) x .rows)
+        each x lt =
+            let below : x < s = subst (λ (m : ℕ). x < m) (length-map-upTo placedAt s) lt in
+            let within : x < length (pack .layers) = omega (arith, good .limits .layer-each, order .s-most) in
+            subst (λ (layer : Layer). Packing (0 + x) (layer .bound) (layer .rows))
+            (sym (getD-map-upTo placedAt s x (record { bound = 0; rows = [] }) below))
+            (copies-packing (0 + x) (blocksAt (pack .layers) x .bound) (split x .copies) (split x .count) (blocksAt (pack .layers) x .rows) (held x below)
+            (packing-at 0 (pack .layers) x within (good .packings)))
 
-      -- the split's placement is good
-      pub placed-good : GoodPlacement (splitPlacement pack s k b split)
-      unfolding splitPlacement
-      placed-good =
-          record { limits = placed-limits; rows = placed-rows; packings = placed-packings; formula = ap (figureOf s k b) (sym heads-placed) }
+    -- the split's placement is good
+    pub placed-good : GoodPlacement (splitPlacement pack s k b split)
+    unfolding splitPlacement
+    placed-good =
+        record { limits = placed-limits; rows = placed-rows; packings = placed-packings; formula = ap (figureOf s k b) (sym heads-placed) }
