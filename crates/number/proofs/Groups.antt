@@ -56,6 +56,31 @@ groups-length-le (suc n) (suc more) v h le =
     (λ small. omega arith)
     (λ large. omega (arith, groups-length-le n more (v / 128) (omega arith) (omega arith)))
 
+-- and no fewer
+pub groups-length-gt : (n more v : ℕ) → capacity n ≤ v → n ≤ more → n < length (groups more v)
+unfolding groups
+groups-length-gt zero more v h le = groups-length-pos more v
+groups-length-gt (suc n) zero v h le = omega arith
+groups-length-gt (suc n) (suc more) v h le =
+    groups-elim
+    (λ g. suc n < length g)
+    more
+    v
+    (λ small. omega (arith, capacity-pos n))
+    (λ large. omega (arith, groups-length-gt n more (v / 128) (omega arith) (omega arith)))
+
+-- however large v is
+pub groups-length-le-more : (more v : ℕ) → length (groups more v) ≤ suc more
+unfolding groups
+groups-length-le-more zero v = le-refl 1
+groups-length-le-more (suc more) v =
+    groups-elim
+    (λ g. length g ≤ suc (suc more))
+    more
+    v
+    (λ small. omega arith)
+    (λ large. omega (arith, groups-length-le-more more (v / 128)))
+
 -- where v fits, every group is a byte
 pub groups-bytes : (more v : ℕ) → v < capacity (suc more) → Bytes (groups more v)
 unfolding groups

@@ -5,14 +5,12 @@ use mathlib.Core.Logic.{⊎-elim}
 use lib.ListN.{getD}
 use borrow.Author.Needs.{needs}
 use borrow.Author.Tests.{ltb-true, ltb-false}
-use Rattle.number.proofs.ReadLoop.{Head, TurnFits, head-holds, head-none, head-ends, head-zero-last, head-last, head-again, turn-fits}
+use Rattle.number.proofs.ReadLoop.{Turn, TurnFits, turn-holds, turn-none, turn-ends, turn-zero-last, turn-last, turn-again, turn-fits}
 use Rattle.number.proofs.read_number.Statement.{statement}
 use Rattle.number.proofs.read_number.Tie as tie
-use Rattle.number.proofs.read_number.Reads as reads
-use Rattle.number.proofs.read_number.Lts as lts
 
 abbrev Inv-loop : tie.InvT-loop
-Inv-loop bytes at left₀ place₀ weight₀ sum₀ left place weight sum = Head bytes at left place weight sum
+Inv-loop bytes at left₀ place₀ weight₀ sum₀ left place weight sum = Turn bytes at left place weight sum
 
 abbrev μ-loop : tie.MeasureT-loop
 μ-loop bytes at left₀ place₀ weight₀ sum₀ left place weight sum = left
@@ -34,10 +32,10 @@ more-fits c =
     (c .before .shared-slice-known .given (l .place) .fits)
 
 loop-holds : tie.Need-loop-holds Inv-loop μ-loop
-loop-holds c = head-holds _ _
+loop-holds c = turn-holds _ _
 
 returns : tie.Need-returns Inv-loop μ-loop
-returns c = head-ends _ _ _ _ _ _ (c .before .before .loop .inv) (c .before .loop-test .taken) (c .if1 .taken)
+returns c = turn-ends _ _ _ _ _ _ (c .before .before .loop .inv) (c .before .loop-test .taken) (c .if1 .taken)
 
 shared-slice-read-byte : tie.Need-shared-slice-read-byte Inv-loop μ-loop
 shared-slice-read-byte c = search needs
@@ -48,7 +46,7 @@ cast-byte c = omega (arith, c .shared-slice-known .given (c .before .before .bef
 returns-2 : tie.Need-returns-2 Inv-loop μ-loop
 returns-2 c =
     let l = c .before .before .before .before .before .before .loop in
-    head-zero-last _ _ _ _ _ _ (l .inv) (c .before .before .before .before .before .loop-test .taken) (omega arith) (omega arith)
+    turn-zero-last _ _ _ _ _ _ (l .inv) (c .before .before .before .before .before .loop-test .taken) (omega arith) (omega arith)
     (omega (arith, ltb-true))
 
 mul-t17 : tie.Need-mul-t17 Inv-loop μ-loop
@@ -63,7 +61,7 @@ add-t19 c = search needs
 returns-3 : tie.Need-returns-3 Inv-loop μ-loop
 returns-3 c =
     let l = c .before .before .before .before .before .loop in
-    head-last _ _ _ _ _ _ (l .inv) (c .before .before .before .before .loop-test .taken) (omega arith) (omega arith)
+    turn-last _ _ _ _ _ _ (l .inv) (c .before .before .before .before .loop-test .taken) (omega arith) (omega arith)
     (⊎-elim (λ w. omega (arith, ltb-false)) (λ w. omega arith) (c .if3 .came))
 
 mul-sum : tie.Need-mul-sum Inv-loop μ-loop
@@ -87,11 +85,11 @@ loop-less c = search needs
 loop-again : tie.Need-loop-again Inv-loop μ-loop
 loop-again c =
     let l = c .before .before .before .before .loop in
-    head-again _ _ _ _ _ _ (l .inv) (c .before .before .before .loop-test .taken) (omega arith) (omega arith)
+    turn-again _ _ _ _ _ _ (l .inv) (c .before .before .before .loop-test .taken) (omega arith) (omega arith)
     (c .before .shared-slice-known .given (l .place) .fits)
 
 returns-4 : tie.Need-returns-4 Inv-loop μ-loop
-returns-4 c = head-none _ _ _ _ _ _ (c .before .loop .inv) (c .loop-test .left)
+returns-4 c = turn-none _ _ _ _ _ _ (c .before .loop .inv) (c .loop-test .left)
 
 pub read-number-spec : {M : Type 1} → statement M
 read-number-spec =
