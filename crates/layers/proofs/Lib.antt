@@ -1,3 +1,9 @@
 pub mod Lengths
+pub mod Lists
+pub mod NumbersRead
+pub mod Heads
+pub mod Layouts
 pub mod Packings
+pub mod RowsChecked
+pub mod Files
 pub mod Worked

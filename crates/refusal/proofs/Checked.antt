@@ -19,6 +19,11 @@ module _ {A B : Type 0} where
   bind-accepted (accepted a) f e = (a, refl, e)
   bind-accepted (refused r) f e = absurd (refused-not-accepted e)
 
+  -- the same, for a proof that goes on from there
+  pub bind-elim : {C : Type 0} (m : Checked A) (f : A → Checked B) {b : B} → (m >>= f) ≡ accepted b → ((a : A) → m ≡ accepted a → f a ≡ accepted b → C) → C
+  bind-elim (accepted a) f e k = k a refl e
+  bind-elim (refused r) f e k = absurd (refused-not-accepted e)
+
   pub accepted-bind : (m : Checked A) (f : A → Checked B) {a : A} {b : B} → m ≡ accepted a → f a ≡ accepted b → (m >>= f) ≡ accepted b
   accepted-bind m f e g = rw e g
 

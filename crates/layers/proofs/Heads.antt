@@ -1,0 +1,150 @@
+-- Which numbers of a head are accepted: each within its limits, the layers' two numbers in turn. Assumes nothing.
+use Prim.Native.Nat.{ℕ, zero, suc, _+_, _-_, _≤_}
+use native.Mathlib.Omega.{arith}
+use mathlib.Core.Path.{_≡_, refl, sym, _∙_, ap, subst}
+use mathlib.Core.Bool.{Bool, true, false, _&&_}
+use mathlib.Core.List.{List, [], _∷_}
+use lib.ListN.{length}
+use lib.Dec.{leb, eqb, leb→le}
+use borrow.Author.Tests.{le-leb, eqb-true, eq-eqb}
+use Rattle.lists.specs.Lists.{All, total}
+use Rattle.lists.proofs.Tests.{T-true, and-left, and-right}
+use Rattle.refusal.specs.declared.Refusal.the-variants.{WrongKind, OutsideLimits}
+use Rattle.refusal.specs.Checked.{Checked, accepted, refused, _>>=_, require}
+use Rattle.refusal.proofs.Checked.{accepted-injective, bind-accepted, bind-elim, require-bind-accepted}
+use Rattle.number.specs.Numbers.{Reading, readNumber, readWithin}
+use Rattle.layers.specs.Layers.{LayerHead, LayerHeads, LayerLimits, headNumbers, sizes, leastSize, readKind, readLayers}
+use Rattle.layers.proofs.NumbersRead.{Reads}
+
+-- a test of two limits
+within : (lo hi v : ℕ) → (leb lo v && leb v hi) ≡ true → (lo ≤ v) × (v ≤ hi)
+within lo hi v e =
+    (leb→le lo v (and-left (leb lo v) (leb v hi) (T-true e)), leb→le v hi (and-right (leb lo v) (leb v hi) (T-true e)))
+
+-- A number of the head is accepted exactly where it is read and within its limits.
+pub readWithin-accepted : (lo hi : ℕ) (s : List ℕ) (at : ℕ) {n : Reading} → readWithin lo hi s at ≡ accepted n → (readNumber s at ≡ accepted n) × ((lo ≤ n .value) × (n .value ≤ hi))
+unfolding readWithin
+readWithin-accepted lo hi s at {n} e =
+    let (a, read, rest) = bind-accepted (readNumber s at) _ e in
+    let (test, same) = require-bind-accepted _ _ _ rest in
+    let eq : a ≡ n = accepted-injective same in
+    rw (← eq) (read, within lo hi (a .value) test)
+
+pub accepted-readWithin : (lo hi : ℕ) (s : List ℕ) (at : ℕ) {n : Reading} → readNumber s at ≡ accepted n → lo ≤ n .value → n .value ≤ hi → readWithin lo hi s at ≡ accepted n
+unfolding readWithin
+accepted-readWithin lo hi s at {n} e l h = rw (e, le-leb lo (n .value) l, le-leb (n .value) hi h)
+
+-- The first number is accepted exactly where it is read and is the file's kind.
+pub readKind-accepted : (kind : ℕ) (s : List ℕ) {n : Reading} → readKind kind s ≡ accepted n → (readNumber s 0 ≡ accepted n) × (n .value ≡ kind)
+unfolding readKind
+readKind-accepted kind s {n} e =
+    let (a, read, rest) = bind-accepted (readNumber s 0) _ e in
+    let (test, same) = require-bind-accepted _ _ _ rest in
+    let eq : a ≡ n = accepted-injective same in
+    rw (← eq) (read, eqb-true (a .value) kind test)
+
+pub accepted-readKind : (kind : ℕ) (s : List ℕ) {n : Reading} → readNumber s 0 ≡ accepted n → n .value ≡ kind → readKind kind s ≡ accepted n
+unfolding readKind
+accepted-readKind kind s {n} e k = rw (e, eq-eqb (n .value) kind k)
+
+-- the sizes of `left` layers sum to at most `room` or, where they must fill it, to it
+abbrev pub SizesFit : (full : Bool) (left room sum : ℕ) → Type 0
+SizesFit false left room sum = sum ≤ room
+SizesFit true zero room sum = sum ≤ room
+SizesFit true (suc left) room sum = sum ≡ room
+
+-- the numbers of `left` layers are within their limits
+pub record HeadsWithin (limits : LayerLimits) (left room : ℕ) (heads : List LayerHead) : Type 0 where
+  pub layer-each : length heads ≡ left
+  pub bounds : All (λ head. (limits .lo ≤ head .bound) × (head .bound ≤ limits .hi)) heads
+  pub fit : SizesFit (limits .full) left room (sizes heads)
+
+-- one layer's size, and those of the layers after it
+fit-cons : (full : Bool) (left room size sum : ℕ) → (left ≡ 0 → sum ≡ 0) → leastSize full left room ≤ size → size ≤ room → SizesFit full left (room - size) sum → SizesFit full (suc left) room (size + sum)
+fit-cons false left room size sum z l h k = omega arith
+fit-cons true zero room size sum z l h k = let none = z refl in omega arith
+fit-cons true (suc left) room size sum z l h k = omega arith
+
+least-of-fit : (full : Bool) (left room size sum : ℕ) → (left ≡ 0 → sum ≡ 0) → SizesFit full (suc left) room (size + sum) → leastSize full left room ≤ size
+least-of-fit false left room size sum z k = omega arith
+least-of-fit true zero room size sum z k = let none = z refl in omega arith
+least-of-fit true (suc left) room size sum z k = omega arith
+
+le-of-fit : (full : Bool) (left room size sum : ℕ) → SizesFit full (suc left) room (size + sum) → size ≤ room
+le-of-fit false left room size sum k = omega arith
+le-of-fit true left room size sum k = omega arith
+
+fit-of-cons : (full : Bool) (left room size sum : ℕ) → SizesFit full (suc left) room (size + sum) → SizesFit full left (room - size) sum
+fit-of-cons false left room size sum k = omega arith
+fit-of-cons true zero room size sum k = omega arith
+fit-of-cons true (suc left) room size sum k = omega arith
+
+fit-nil : (full : Bool) (room : ℕ) → SizesFit full 0 room 0
+fit-nil false room = omega arith
+fit-nil true room = omega arith
+
+sizes-none : (heads : List LayerHead) → length heads ≡ 0 → sizes heads ≡ 0
+unfolding total
+sizes-none [] e = refl
+sizes-none (head ∷ heads) e = omega arith
+
+-- the limits of one layer's numbers, and of those of the layers after it
+within-cons : (limits : LayerLimits) (left room : ℕ) (head : LayerHead) (heads : List LayerHead)
+    → (limits .lo ≤ head .bound) × (head .bound ≤ limits .hi) → leastSize (limits .full) left room ≤ head .size → head .size ≤ room
+    → HeadsWithin limits left (room - head .size) heads → HeadsWithin limits (suc left) room (head ∷ heads)
+unfolding total
+within-cons limits left room head heads b l h w =
+    record {
+      layer-each = ap suc (w .layer-each);
+      bounds = (b, w .bounds);
+      fit = fit-cons (limits .full) left room (head .size) (sizes heads) (λ z. sizes-none heads (w .layer-each ∙ z)) l h (w .fit);
+    }
+
+least-within : (limits : LayerLimits) (left room : ℕ) (head : LayerHead) (heads : List LayerHead) → HeadsWithin limits (suc left) room (head ∷ heads)
+    → leastSize (limits .full) left room ≤ head .size
+unfolding total
+least-within limits left room head heads w =
+    least-of-fit (limits .full) left room (head .size) (sizes heads) (λ z. sizes-none heads (let e = w .layer-each in omega arith)) (w .fit)
+
+within-rest : (limits : LayerLimits) (left room : ℕ) (head : LayerHead) (heads : List LayerHead) → HeadsWithin limits (suc left) room (head ∷ heads)
+    → HeadsWithin limits left (room - head .size) heads
+unfolding total
+within-rest limits left room head heads w =
+    record {
+      layer-each = let e = w .layer-each in omega arith;
+      bounds = w .bounds .1;
+      fit = fit-of-cons (limits .full) left room (head .size) (sizes heads) (w .fit);
+    }
+
+-- "for each x .. the numbers mu .. and m", "lambda .. and c": they are accepted exactly where they are read and within
+-- their limits
+pub readLayers-accepted : (limits : LayerLimits) (left room : ℕ) (s : List ℕ) (at : ℕ) {h : LayerHeads} → readLayers limits left room s at ≡ accepted h
+    → Reads (headNumbers (h .heads)) s at (h .next) × HeadsWithin limits left room (h .heads)
+unfolding readLayers headNumbers total
+readLayers-accepted limits zero room s at e =
+    subst
+    (λ h. Reads (headNumbers (h .heads)) s at (h .next) × HeadsWithin limits zero room (h .heads))
+    (accepted-injective e)
+    (refl, record { layer-each = refl; bounds = tt; fit = fit-nil (limits .full) room })
+readLayers-accepted limits (suc left) room s at e =
+    bind-elim (readWithin (limits .lo) (limits .hi) s at) _ e λ bound e₁ r₁.
+    bind-elim (readWithin (leastSize (limits .full) left room) room s (bound .next)) _ r₁ λ size e₂ r₂.
+    bind-elim (readLayers limits left (room - size .value) s (size .next)) _ r₂ λ rest e₃ r₃.
+    let (read₁, within₁) = readWithin-accepted (limits .lo) (limits .hi) s at e₁ in
+    let (read₂, within₂) = readWithin-accepted (leastSize (limits .full) left room) room s (bound .next) e₂ in
+    let (reads, heads) = readLayers-accepted limits left (room - size .value) s (size .next) e₃ in
+    let head : LayerHead = record { bound = bound .value; size = size .value } in
+    subst
+    (λ h. Reads (headNumbers (h .heads)) s at (h .next) × HeadsWithin limits (suc left) room (h .heads))
+    (accepted-injective r₃)
+    ((bound .next, read₁, (size .next, read₂, reads)), within-cons limits left room head (rest .heads) within₁ (within₂ .0) (within₂ .1) heads)
+
+pub accepted-readLayers : (limits : LayerLimits) (left room : ℕ) (s : List ℕ) (at : ℕ) (heads : List LayerHead) (next : ℕ) → Reads (headNumbers heads) s at next
+    → HeadsWithin limits left room heads → readLayers limits left room s at ≡ accepted (record { heads = heads; next = next })
+unfolding readLayers headNumbers total
+accepted-readLayers limits zero room s at [] next reads w = rw reads
+accepted-readLayers limits zero room s at (head ∷ heads) next reads w = let e = w .layer-each in absurd (omega arith)
+accepted-readLayers limits (suc left) room s at [] next reads w = let e = w .layer-each in absurd (omega arith)
+accepted-readLayers limits (suc left) room s at (head ∷ heads) next (p, read₁, (q, read₂, reads)) w =
+    rw
+    (accepted-readWithin (limits .lo) (limits .hi) s at read₁ (w .bounds .0 .0) (w .bounds .0 .1), accepted-readWithin (leastSize (limits .full) left room) room s p read₂ (least-within limits left room head heads w) (le-of-fit (limits .full) left room (head .size) (sizes heads) (w .fit)), accepted-readLayers limits left (room - head .size) s q heads next reads (within-rest limits left room head heads w))

@@ -1,0 +1,30 @@
+-- General laws of lists that the laws of layers use. Assumes nothing.
+use Prim.Native.Nat.{ℕ, _+_, _-_, _*_, _≤_, suc}
+use native.Mathlib.Omega.{arith}
+use mathlib.Core.Path.{_≡_, refl, _∙_, ap}
+use mathlib.Core.List.{List, [], _∷_, _++_, flatten}
+use lib.ListN.{length, take, drop, length-append}
+use lib.Seq.{slice, take-add, drop-append-le, drop-at, length-take-le}
+use Rattle.lists.specs.Lists.{All}
+
+module _ {A : Type 0} where
+  -- the elements from a to c are those from a to b and those from b to c
+  pub slice-append : (a b c : ℕ) (l : List A) → a ≤ b → b ≤ c → c ≤ length l → slice a c l ≡ slice a b l ++ slice b c l
+  slice-append a b c l h k le =
+      let split : take c l ≡ take b l ++ take (c - b) (drop b l) = (let e : c ≡ b + (c - b) = omega arith in ap (λ n. take n l) e) ∙ take-add b (c - b) l in
+      let len = length-take-le b l (omega arith) in
+      rw
+      (split, drop-append-le a (take b l) (take (c - b) (drop b l)) (omega arith), drop-at (take b l) (take (c - b) (drop b l)) b len)
+
+  pub all-both : (P Q : A → Type 0) (l : List A) → All P l → All Q l → All (λ a. P a × Q a) l
+  all-both P Q [] h g = tt
+  all-both P Q (a ∷ l) h g = ((h .0, g .0), all-both P Q l (h .1) (g .1))
+
+  -- lists of one length
+  pub length-flatten : (r : ℕ) (ls : List (List A)) → All (λ l. length l ≡ r) ls → length (flatten ls) ≡ length ls * r
+  unfolding flatten
+  length-flatten r [] h = omega arith
+  length-flatten r (l ∷ ls) h =
+      let first = h .0 in
+      let rest = length-flatten r ls (h .1) in
+      omega (arith, length-append l (flatten ls))
