@@ -1,4 +1,4 @@
--- A file is its head's numbers, read from the start, and then its rows. Assumes nothing.
+-- A file is its head's numbers, read from the start, and then its rows: layers that are accepted, and files. Assumes nothing.
 use Prim.Native.Nat.{ℕ, zero, _+_, _≤_}
 use native.Mathlib.Omega.{arith}
 use native.Mathlib.Nat.{zero-add}
@@ -6,9 +6,14 @@ use mathlib.Core.Path.{_≡_, refl, sym, _∙_, ap, subst}
 use mathlib.Core.List.{List, [], _∷_, _++_, flatten}
 use lib.ListN.{length, take, drop, length-append, take-append-drop}
 use lib.Seq.{drop-append-seam}
+use Rattle.lists.specs.Lists.{All}
+use Rattle.refusal.specs.Checked.{accepted}
 use Rattle.number.specs.Numbers.{Bytes, Forms}
-use Rattle.layers.specs.Layers.{Layer, allRows, File}
+use Rattle.packing.specs.Rows.{Row}
+use Rattle.layers.specs.Layers.{Layer, LayerHeads, LayerLimits, allRows, headsOf, headNumbers, Packings, File, readLayers, checkRows}
 use Rattle.layers.proofs.NumbersRead.{Reads, reads-forms, forms-reads}
+use Rattle.layers.proofs.Heads.{HeadsWithin, readLayers-accepted, accepted-readLayers}
+use Rattle.layers.proofs.RowsChecked.{RowsTaken, checkRows-accepted, accepted-checkRows, taken-heads, taken-bytes, taken-of-bytes}
 
 -- the head's numbers are read from the start, and the rows are what is left
 pub record FileRead (head : List ℕ) (layers : List Layer) (s : List ℕ) : Type 0 where
@@ -30,3 +35,39 @@ file-read head layers s (h, forms, e) =
 pub read-file : (head : List ℕ) (layers : List Layer) (s : List ℕ) → Bytes s → FileRead head layers s → File head layers s
 read-file head layers s b f =
     (take (f .end) s, reads-forms head s 0 (f .end) b (omega arith) (f .reads), sym (take-append-drop (f .end) s) ∙ ap (λ l. take (f .end) s ++ l) (f .rest))
+
+-- Layers whose numbers are read from `at` to `end`, and whose rows are what is left: all within their limits, in order and
+-- packings.
+pub record LayersRead (limits : LayerLimits) (n r left room : ℕ) (s : List ℕ) (at end : ℕ) (layers : List Layer) : Type 0 where
+  pub reads : Reads (headNumbers (headsOf layers)) s at end
+  pub within : HeadsWithin limits left room (headsOf layers)
+  pub inside : end ≤ length s
+  pub rest : drop end s ≡ flatten (allRows layers)
+  pub rows : All (Row n r) (allRows layers)
+  pub packings : Packings 0 layers
+
+module _ (limits : LayerLimits) (n r left room : ℕ) (s : List ℕ) (at : ℕ) where
+  -- The layers' numbers and rows are accepted exactly where they are read so.
+  pub layers-accepted : {head : LayerHeads} {layers : List Layer} → readLayers limits left room s at ≡ accepted head → checkRows n r (head .heads) s (head .next) ≡ accepted layers
+      → LayersRead limits n r left room s at (head .next) layers
+  layers-accepted {head} {layers} e₁ e₂ =
+      let (reads, within) = readLayers-accepted limits left room s at e₁ in
+      let taken = checkRows-accepted n r (head .heads) s (head .next) e₂ in
+      let heads : headsOf layers ≡ head .heads = taken-heads n r (head .heads) s (head .next) taken in
+      let ends = taken .ends in
+      record {
+        reads = rw heads reads;
+        within = rw heads within;
+        inside = omega arith;
+        rest = taken-bytes n r (head .heads) s (head .next) taken;
+        rows = taken .rows;
+        packings = taken .packings;
+      }
+
+  pub accepted-heads : {end : ℕ} {layers : List Layer} → LayersRead limits n r left room s at end layers → readLayers limits left room s at ≡ accepted (record { heads = headsOf layers; next = end })
+  accepted-heads {end} {layers} l =
+      accepted-readLayers limits left room s at (headsOf layers) end (l .reads) (l .within)
+
+  pub accepted-rows : {end : ℕ} {layers : List Layer} → LayersRead limits n r left room s at end layers → checkRows n r (headsOf layers) s end ≡ accepted layers
+  accepted-rows {end} {layers} l =
+      accepted-checkRows n r (headsOf layers) s end (taken-of-bytes n r s end layers (l .inside) (l .rest) (l .rows) (l .packings))

@@ -11,7 +11,7 @@ use Rattle.lists.specs.Lists.{All, total}
 use Rattle.lists.proofs.Tests.{T-true, and-left, and-right}
 use Rattle.refusal.specs.declared.Refusal.the-variants.{WrongKind, OutsideLimits}
 use Rattle.refusal.specs.Checked.{Checked, accepted, refused, _>>=_, require}
-use Rattle.refusal.proofs.Checked.{accepted-injective, bind-accepted, bind-elim, require-bind-accepted}
+use Rattle.refusal.proofs.Checked.{accepted-injective, bind-elim, require-bind-accepted}
 use Rattle.number.specs.Numbers.{Reading, readNumber, readWithin}
 use Rattle.layers.specs.Layers.{LayerHead, LayerHeads, LayerLimits, headNumbers, sizes, leastSize, readKind, readLayers}
 use Rattle.layers.proofs.NumbersRead.{Reads}
@@ -25,27 +25,28 @@ within lo hi v e =
 pub readWithin-accepted : (lo hi : ℕ) (s : List ℕ) (at : ℕ) {n : Reading} → readWithin lo hi s at ≡ accepted n → (readNumber s at ≡ accepted n) × ((lo ≤ n .value) × (n .value ≤ hi))
 unfolding readWithin
 readWithin-accepted lo hi s at {n} e =
-    let (a, read, rest) = bind-accepted (readNumber s at) _ e in
-    let (test, same) = require-bind-accepted _ _ _ rest in
-    let eq : a ≡ n = accepted-injective same in
-    rw (← eq) (read, within lo hi (a .value) test)
+    bind-elim (readNumber s at) _ e λ number read rest.
+    let (test, same) = require-bind-accepted (leb lo (number .value) && leb (number .value) hi) (OutsideLimits at) _ rest in
+    let eq : number ≡ n = accepted-injective same in
+    rw (← eq) (read, within lo hi (number .value) test)
 
 pub accepted-readWithin : (lo hi : ℕ) (s : List ℕ) (at : ℕ) {n : Reading} → readNumber s at ≡ accepted n → lo ≤ n .value → n .value ≤ hi → readWithin lo hi s at ≡ accepted n
 unfolding readWithin
 accepted-readWithin lo hi s at {n} e l h = rw (e, le-leb lo (n .value) l, le-leb (n .value) hi h)
 
 -- The first number is accepted exactly where it is read and is the file's kind.
-pub readKind-accepted : (kind : ℕ) (s : List ℕ) {n : Reading} → readKind kind s ≡ accepted n → (readNumber s 0 ≡ accepted n) × (n .value ≡ kind)
+pub readKind-accepted : (kind : ℕ) (s : List ℕ) {n : Reading} → readKind kind s ≡ accepted n → readNumber s 0 ≡ accepted (record { value = kind; next = n .next })
 unfolding readKind
 readKind-accepted kind s {n} e =
-    let (a, read, rest) = bind-accepted (readNumber s 0) _ e in
-    let (test, same) = require-bind-accepted _ _ _ rest in
-    let eq : a ≡ n = accepted-injective same in
-    rw (← eq) (read, eqb-true (a .value) kind test)
+    bind-elim (readNumber s 0) _ e λ first read rest.
+    let (test, same) = require-bind-accepted (eqb (first .value) kind) WrongKind _ rest in
+    let is : first .value ≡ kind = eqb-true (first .value) kind test in
+    let eq : first ≡ n = accepted-injective same in
+    read ∙ (λ i. accepted (record { value = is i; next = (eq i) .next }))
 
-pub accepted-readKind : (kind : ℕ) (s : List ℕ) {n : Reading} → readNumber s 0 ≡ accepted n → n .value ≡ kind → readKind kind s ≡ accepted n
+pub accepted-readKind : (kind : ℕ) (s : List ℕ) {next : ℕ} → readNumber s 0 ≡ accepted (record { value = kind; next = next }) → readKind kind s ≡ accepted (record { value = kind; next = next })
 unfolding readKind
-accepted-readKind kind s {n} e k = rw (e, eq-eqb (n .value) kind k)
+accepted-readKind kind s e = rw (e, eq-eqb kind kind refl)
 
 -- the sizes of `left` layers sum to at most `room` or, where they must fill it, to it
 abbrev pub SizesFit : (full : Bool) (left room sum : ℕ) → Type 0

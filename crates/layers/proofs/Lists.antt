@@ -2,7 +2,7 @@
 use Prim.Native.Nat.{ℕ, _+_, _-_, _*_, _≤_, suc}
 use native.Mathlib.Omega.{arith}
 use mathlib.Core.Path.{_≡_, refl, _∙_, ap}
-use mathlib.Core.List.{List, [], _∷_, _++_, flatten}
+use mathlib.Core.List.{List, [], _∷_, _++_, map, flatten}
 use lib.ListN.{length, take, drop, length-append}
 use lib.Seq.{slice, take-add, drop-append-le, drop-at, length-take-le}
 use Rattle.lists.specs.Lists.{All}
@@ -19,6 +19,10 @@ module _ {A : Type 0} where
   pub all-both : (P Q : A → Type 0) (l : List A) → All P l → All Q l → All (λ a. P a × Q a) l
   all-both P Q [] h g = tt
   all-both P Q (a ∷ l) h g = ((h .0, g .0), all-both P Q l (h .1) (g .1))
+
+  pub all-of-map : {B : Type 0} (P : A → Type 0) (g : B → A) (l : List B) → All P (map g l) → All (λ b. P (g b)) l
+  all-of-map P g [] h = tt
+  all-of-map P g (b ∷ l) h = (h .0, all-of-map P g l (h .1))
 
   -- lists of one length
   pub length-flatten : (r : ℕ) (ls : List (List A)) → All (λ l. length l ≡ r) ls → length (flatten ls) ≡ length ls * r
