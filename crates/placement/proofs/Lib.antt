@@ -1,3 +1,4 @@
 pub mod Written
 pub mod Survivors
+pub mod Accepted
 pub mod Worked
