@@ -1,19 +1,19 @@
 -- A file is its head's numbers, read from the start, and then its rows: layers that are accepted, and files. Assumes nothing.
-use Prim.Native.Nat.{ℕ, zero, _+_, _≤_}
+use Prim.Native.Nat.{ℕ, _≤_}
 use native.Mathlib.Omega.{arith}
 use native.Mathlib.Nat.{zero-add}
-use mathlib.Core.Path.{_≡_, refl, sym, _∙_, ap, subst}
-use mathlib.Core.List.{List, [], _∷_, _++_, flatten}
+use mathlib.Core.Path.{_≡_, sym, _∙_, ap}
+use mathlib.Core.List.{List, [], _++_, flatten}
 use lib.ListN.{length, take, drop, length-append, take-append-drop}
 use lib.Seq.{drop-append-seam}
 use Rattle.lists.specs.Lists.{All}
 use Rattle.refusal.specs.Checked.{accepted}
-use Rattle.number.specs.Numbers.{Bytes, Forms}
+use Rattle.number.specs.Numbers.{Bytes}
 use Rattle.packing.specs.Rows.{Row}
 use Rattle.layers.specs.Layers.{Layer, LayerHeads, LayerLimits, allRows, headsOf, headNumbers, Packings, File, readLayers, checkRows}
 use Rattle.layers.proofs.NumbersRead.{Reads, reads-forms, forms-reads}
 use Rattle.layers.proofs.Heads.{HeadsWithin, readLayers-accepted, accepted-readLayers}
-use Rattle.layers.proofs.RowsChecked.{RowsTaken, checkRows-accepted, accepted-checkRows, taken-heads, taken-bytes, taken-of-bytes}
+use Rattle.layers.proofs.RowsChecked.{checkRows-accepted, accepted-checkRows, taken-heads, taken-bytes, taken-of-bytes}
 
 -- the head's numbers are read from the start, and the rows are what is left
 pub record FileRead (head : List ℕ) (layers : List Layer) (s : List ℕ) : Type 0 where

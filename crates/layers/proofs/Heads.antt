@@ -1,7 +1,7 @@
 -- Which numbers of a head are accepted: each within its limits, the layers' two numbers in turn. Assumes nothing.
 use Prim.Native.Nat.{ℕ, zero, suc, _+_, _-_, _≤_}
 use native.Mathlib.Omega.{arith}
-use mathlib.Core.Path.{_≡_, refl, sym, _∙_, ap, subst}
+use mathlib.Core.Path.{_≡_, refl, _∙_, ap, subst}
 use mathlib.Core.Bool.{Bool, true, false, _&&_}
 use mathlib.Core.List.{List, [], _∷_}
 use lib.ListN.{length}
@@ -10,7 +10,7 @@ use borrow.Author.Tests.{le-leb, eqb-true, eq-eqb}
 use Rattle.lists.specs.Lists.{All, total}
 use Rattle.lists.proofs.Tests.{T-true, and-left, and-right}
 use Rattle.refusal.specs.declared.Refusal.the-variants.{WrongKind, OutsideLimits}
-use Rattle.refusal.specs.Checked.{Checked, accepted, refused, _>>=_, require}
+use Rattle.refusal.specs.Checked.{accepted}
 use Rattle.refusal.proofs.Checked.{accepted-injective, bind-elim, require-bind-accepted}
 use Rattle.number.specs.Numbers.{Reading, readNumber, readWithin}
 use Rattle.layers.specs.Layers.{LayerHead, LayerHeads, LayerLimits, headNumbers, sizes, leastSize, readKind, readLayers}
@@ -59,6 +59,12 @@ pub record HeadsWithin (limits : LayerLimits) (left room : ℕ) (heads : List La
   pub layer-each : length heads ≡ left
   pub bounds : All (λ head. (limits .lo ≤ head .bound) × (head .bound ≤ limits .hi)) heads
   pub fit : SizesFit (limits .full) left room (sizes heads)
+
+-- at most the room in any case
+pub fit-le : (full : Bool) (left room sum : ℕ) → SizesFit full left room sum → sum ≤ room
+fit-le false left room sum k = k
+fit-le true zero room sum k = k
+fit-le true (suc left) room sum k = omega arith
 
 -- one layer's size, and those of the layers after it
 fit-cons : (full : Bool) (left room size sum : ℕ) → (left ≡ 0 → sum ≡ 0) → leastSize full left room ≤ size → size ≤ room → SizesFit full left (room - size) sum → SizesFit full (suc left) room (size + sum)

@@ -6,4 +6,5 @@ pub mod Layouts
 pub mod Packings
 pub mod RowsChecked
 pub mod Files
+pub mod Prefix
 pub mod Worked

@@ -1,10 +1,13 @@
 -- General laws of lists that the laws of layers use. Assumes nothing.
-use Prim.Native.Nat.{ℕ, _+_, _-_, _*_, _≤_, suc}
+use Prim.Native.Nat.{ℕ, _+_, _-_, _*_, _≤_}
 use native.Mathlib.Omega.{arith}
 use mathlib.Core.Path.{_≡_, refl, _∙_, ap}
+use mathlib.Core.Bool.{Bool, true, false}
 use mathlib.Core.List.{List, [], _∷_, _++_, map, flatten}
 use lib.ListN.{length, take, drop, length-append}
-use lib.Seq.{slice, take-add, drop-append-le, drop-at, length-take-le}
+use lib.Dec.{leb}
+use borrow.Author.Tests.{leb-true, leb-false}
+use lib.Seq.{slice, take-add, take-all, drop-append-le, drop-at, length-take-le}
 use Rattle.lists.specs.Lists.{All}
 
 module _ {A : Type 0} where
@@ -32,3 +35,11 @@ module _ {A : Type 0} where
       let first = h .0 in
       let rest = length-flatten r ls (h .1) in
       omega (arith, length-append l (flatten ls))
+
+  -- what looks only at a list's first m elements is shown for lists that have m
+  pub take-elim : {B : Type 0} (f : List A → B) (m : ℕ) (l : List A) → (m ≤ length l → f (take m l) ≡ f l) → f (take m l) ≡ f l
+  take-elim f m l h = go (leb m (length l)) refl
+    where
+      go : (b : Bool) → leb m (length l) ≡ b → f (take m l) ≡ f l
+      go true e = h (leb-true m (length l) e)
+      go false e = let lt = leb-false m (length l) e in ap f (take-all m l (omega arith))

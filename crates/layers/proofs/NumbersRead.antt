@@ -1,12 +1,12 @@
 -- Numbers read one after another: where they stand, and that they are the forms of those numbers. Assumes nothing.
-use Prim.Native.Nat.{ℕ, zero, suc, _+_, _-_, _≤_, _<_}
+use Prim.Native.Nat.{ℕ, _+_, _*_, _≤_}
 use native.Mathlib.Omega.{arith}
-use mathlib.Core.Path.{_≡_, refl, sym, _∙_, ap, subst}
-use mathlib.Core.List.{List, [], _∷_, _++_, append-nil, append-assoc}
-use lib.ListN.{length, take, drop, length-append, take-append-drop}
+use mathlib.Core.Path.{_≡_}
+use mathlib.Core.List.{List, [], _∷_, _++_, append-assoc}
+use lib.ListN.{length, length-append}
 use lib.Seq.{slice, slice-empty}
-use Rattle.refusal.specs.Checked.{Checked, accepted, refused}
-use Rattle.number.specs.Numbers.{Bytes, Reading, Form, Forms, readNumber}
+use Rattle.refusal.specs.Checked.{accepted}
+use Rattle.number.specs.Numbers.{Bytes, Forms, readNumber}
 use Rattle.number.proofs.Reading.{form-read, read-form, read-next}
 use Rattle.layers.proofs.Lists.{slice-append}
 
@@ -29,6 +29,14 @@ reads-le-length [] s at end k h = omega arith
 reads-le-length (v ∷ vs) s at end k h =
     let lt = read-next s at (h .1) in
     reads-le-length vs s (h .0) end (lt .2) (h .2)
+
+-- a number takes at most four bytes
+pub reads-next : (vs s : List ℕ) (at end : ℕ) → Reads vs s at end → end ≤ at + length vs * 4
+reads-next [] s at end h = omega arith
+reads-next (v ∷ vs) s at end h =
+    let rest = reads-next vs s (h .0) end (h .2) in
+    let first = read-next s at (h .1) in
+    omega arith
 
 -- numbers that were read stand there in their forms
 pub reads-forms : (vs s : List ℕ) (at end : ℕ) → Bytes s → at ≤ length s → Reads vs s at end → Forms vs (slice at end s)

@@ -1,11 +1,10 @@
 -- Which rows are accepted: those that fill the rest of the bytes, are in order and form packings. Assumes nothing.
-use Prim.Native.Nat.{ℕ, zero, suc, _+_, _*_, _-_, _≤_}
+use Prim.Native.Nat.{ℕ, _+_, _*_, _≤_}
 use native.Mathlib.Omega.{arith}
 use mathlib.Core.Path.{_≡_, refl, sym, _∙_, ap, subst}
-use mathlib.Core.Bool.{Bool, true, false}
-use mathlib.Core.List.{List, [], _∷_, _++_, flatten, append-nil}
+use mathlib.Core.List.{List, [], flatten, append-nil}
 use mathlib.Core.Option.{Option, none, some}
-use lib.ListN.{length, take, drop, length-drop}
+use lib.ListN.{length, drop, length-drop}
 use lib.Seq.{take-all}
 use lib.Dec.{T, leb}
 use borrow.Author.Tests.{leb-true, le-leb}
@@ -13,8 +12,8 @@ use Rattle.lists.specs.Lists.{All}
 use Rattle.lists.proofs.Alls.{all-imp}
 use Rattle.refusal.specs.declared.Refusal.{Refusal}
 use Rattle.refusal.specs.declared.Refusal.the-variants.{Ended, Trailing, BadRow, Crowded}
-use Rattle.refusal.specs.Checked.{Checked, accepted, refused, _>>=_, require}
-use Rattle.refusal.proofs.Checked.{accepted-injective, refused-not-accepted, bind-elim, require-bind-accepted}
+use Rattle.refusal.specs.Checked.{Checked, accepted, _>>=_}
+use Rattle.refusal.proofs.Checked.{accepted-injective, refused-not-accepted, require-bind-accepted}
 use Rattle.packing.specs.Rows.{Row, inOrder, firstBad}
 use Rattle.packing.proofs.Test.{good-iff-in-order}
 use Rattle.layers.specs.Layers.{Layer, LayerHead, Packings, sizes, allRows, headsOf, layersAt, firstCrowdedOf, refuseRow, checkRows}

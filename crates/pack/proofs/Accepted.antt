@@ -1,15 +1,15 @@
 -- Demand 2 for packs: the check accepts exactly the files of good packs. Assumes nothing.
 use Prim.Native.Nat.{ℕ, _≤_, min}
 use native.Mathlib.Omega.{arith}
-use mathlib.Core.Path.{_≡_, refl, sym, _∙_, subst}
+use mathlib.Core.Path.{_≡_, sym, _∙_, subst}
 use mathlib.Core.Logic.{_↔_}
-use mathlib.Core.List.{List, [], _∷_}
-use lib.ListN.{length, length-map}
+use mathlib.Core.List.{List}
+use lib.ListN.{length-map}
 use Rattle.lists.proofs.Alls.{all-map}
-use Rattle.refusal.specs.Checked.{Checked, accepted, _>>=_}
+use Rattle.refusal.specs.Checked.{accepted}
 use Rattle.refusal.proofs.Checked.{accepted-injective, bind-elim}
 use Rattle.number.specs.Numbers.{Bytes, Reading, readWithin}
-use Rattle.layers.specs.Layers.{Layer, LayerHeads, headsOf, readKind, readLayers, checkRows}
+use Rattle.layers.specs.Layers.{Layer, headsOf, readKind, readLayers, checkRows}
 use Rattle.layers.proofs.Lists.{all-of-map}
 use Rattle.layers.proofs.Heads.{HeadsWithin, readWithin-accepted, accepted-readWithin, readKind-accepted, accepted-readKind}
 use Rattle.layers.proofs.Files.{FileRead, LayersRead, file-read, read-file, layers-accepted, accepted-heads, accepted-rows}

@@ -1,20 +1,19 @@
 -- Demand 2 for placements: the check accepts exactly the files of good placements. Assumes nothing.
 use Prim.Native.Nat.{ℕ, zero, suc, _-_, _≤_, min}
 use native.Mathlib.Omega.{arith}
-use mathlib.Core.Path.{_≡_, refl, sym, _∙_, ap, subst}
+use mathlib.Core.Path.{_≡_, sym, _∙_, subst}
 use mathlib.Core.Logic.{_↔_}
 use mathlib.Core.Bool.{true}
-use mathlib.Core.List.{List, [], _∷_}
-use lib.ListN.{length, length-map}
+use mathlib.Core.List.{List}
+use lib.ListN.{length-map}
 use lib.Dec.{eqb}
 use borrow.Author.Tests.{eqb-true, eq-eqb}
-use Rattle.lists.specs.Lists.{All}
 use Rattle.lists.proofs.Alls.{all-map, all-imp}
 use Rattle.refusal.specs.declared.Refusal.the-variants.{WrongFigure}
-use Rattle.refusal.specs.Checked.{Checked, accepted, _>>=_, require}
+use Rattle.refusal.specs.Checked.{accepted}
 use Rattle.refusal.proofs.Checked.{accepted-injective, bind-elim, require-bind-accepted}
 use Rattle.number.specs.Numbers.{Bytes, Reading, readWithin}
-use Rattle.layers.specs.Layers.{Layer, LayerHead, LayerHeads, sizes, headsOf, readKind, readLayers, checkRows}
+use Rattle.layers.specs.Layers.{Layer, LayerHead, sizes, headsOf, readKind, readLayers, checkRows}
 use Rattle.layers.proofs.Lists.{all-of-map}
 use Rattle.layers.proofs.Heads.{SizesFit, HeadsWithin, readWithin-accepted, accepted-readWithin, readKind-accepted, accepted-readKind}
 use Rattle.layers.proofs.Files.{FileRead, LayersRead, file-read, read-file, layers-accepted, accepted-heads, accepted-rows}

@@ -1,4 +1,5 @@
 pub mod Written
 pub mod Survivors
 pub mod Accepted
+pub mod Prefix
 pub mod Worked

@@ -1,0 +1,75 @@
+-- A check looks no further than the head's numbers and the rows that they say, so it is the same for a long enough
+-- beginning of the bytes. Assumes nothing.
+use Prim.Native.Nat.{ℕ, zero, suc, _+_, _*_, _-_, _≤_, _<_}
+use native.Mathlib.Omega.{arith}
+use native.Mathlib.Nat.{mul-le-mul-right}
+use mathlib.Core.Path.{_≡_, refl}
+use mathlib.Core.List.{List, [], _∷_}
+use lib.ListN.{length, take}
+use lib.Seq.{length-take-le}
+use borrow.Author.Tests.{le-leb, lt-leb}
+use Rattle.refusal.specs.Checked.{accepted}
+use Rattle.refusal.proofs.Checked.{bind-congr}
+use Rattle.number.specs.Numbers.{Reading, readWithin}
+use Rattle.number.proofs.Reading.{read-next, read-local}
+use Rattle.layers.specs.Layers.{LayerHead, LayerHeads, LayerLimits, headNumbers, sizes, leastSize, readKind, readLayers, checkRows}
+use Rattle.layers.proofs.NumbersRead.{reads-next}
+use Rattle.layers.proofs.Heads.{fit-le, readWithin-accepted, readKind-accepted, readLayers-accepted}
+
+-- the place after a number that was accepted
+pub readKind-next : (kind : ℕ) (s : List ℕ) {n : Reading} → readKind kind s ≡ accepted n → n .next ≤ 4
+readKind-next kind s e = omega (arith, read-next s 0 (readKind-accepted kind s e))
+
+pub readWithin-next : (lo hi : ℕ) (s : List ℕ) (at : ℕ) {n : Reading} → readWithin lo hi s at ≡ accepted n → n .next ≤ at + 4
+readWithin-next lo hi s at e = read-next s at (readWithin-accepted lo hi s at e .0) .0
+
+length-headNumbers : (heads : List LayerHead) → length (headNumbers heads) ≡ length heads * 2
+unfolding headNumbers
+length-headNumbers [] = refl
+length-headNumbers (head ∷ heads) = let rest = length-headNumbers heads in omega arith
+
+module _ (m : ℕ) (s : List ℕ) (long : m ≤ length s) where
+  -- A number that starts four bytes or more before m is read from the first m bytes.
+  pub readKind-take : (kind : ℕ) → 4 ≤ m → readKind kind (take m s) ≡ readKind kind s
+  unfolding readKind
+  readKind-take kind h = rw (read-local m s 0 (omega arith) long)
+
+  pub readWithin-take : (lo hi at : ℕ) → at + 4 ≤ m → readWithin lo hi (take m s) at ≡ readWithin lo hi s at
+  unfolding readWithin
+  readWithin-take lo hi at h = rw (read-local m s at h long)
+
+  pub readLayers-take : (limits : LayerLimits) (left room at : ℕ) → at + left * 8 ≤ m → readLayers limits left room (take m s) at ≡ readLayers limits left room s at
+  unfolding readLayers
+  readLayers-take limits zero room at h = refl
+  readLayers-take limits (suc left) room at h =
+      bind-congr _ _ _ _ (readWithin-take (limits .lo) (limits .hi) at (omega arith)) λ bound e₁.
+      let next₁ = readWithin-next (limits .lo) (limits .hi) (take m s) at e₁ in
+      bind-congr _ _ _ _ (readWithin-take (leastSize (limits .full) left room) room (bound .next) (omega arith)) λ size e₂.
+      let next₂ = readWithin-next (leastSize (limits .full) left room) room (take m s) (bound .next) e₂ in
+      bind-congr _ _ _ _ (readLayers-take limits left (room - size .value) (size .next) (omega arith)) (λ rest e₃. refl)
+
+  -- Rows that end before m: the bytes from there to m are trailing, and so are all.
+  pub checkRows-take : (n r : ℕ) (heads : List LayerHead) (at : ℕ) → at + sizes heads * r < m → checkRows n r heads (take m s) at ≡ checkRows n r heads s at
+  unfolding checkRows
+  checkRows-take n r heads at h =
+      let end = at + sizes heads * r in
+      rw
+      (length-take-le m s long, le-leb end m (omega arith), lt-leb m end h, le-leb end (length s) (omega arith), lt-leb (length s) end (omega arith))
+
+-- what the layers' numbers allow for: eight bytes a layer, and `room` rows
+pub rows-end : (limits : LayerLimits) (left room r : ℕ) (s : List ℕ) (at : ℕ) {head : LayerHeads} → readLayers limits left room s at ≡ accepted head
+    → head .next + sizes (head .heads) * r ≤ at + left * 8 + room * r
+rows-end limits left room r s at {head} e =
+    let (reads, within) = readLayers-accepted limits left room s at e in
+    let each = within .layer-each in
+    let next = reads-next (headNumbers (head .heads)) s at (head .next) reads in
+    let numbers = length-headNumbers (head .heads) in
+    let rows = mul-le-mul-right r (fit-le (limits .full) left room (sizes (head .heads)) (within .fit)) in
+    omega arith
+
+-- The layers' numbers and rows, checked one after the other.
+pub layers-take : (limits : LayerLimits) (n r left room : ℕ) (s : List ℕ) (at m : ℕ) {head : LayerHeads} → m ≤ length s → readLayers limits left room (take m s) at ≡ accepted head → at + left * 8 + room * r < m
+    → checkRows n r (head .heads) (take m s) (head .next) ≡ checkRows n r (head .heads) s (head .next)
+layers-take limits n r left room s at m {head} long e h =
+    let end = rows-end limits left room r (take m s) at e in
+    checkRows-take m s long n r (head .heads) (head .next) (omega arith)
