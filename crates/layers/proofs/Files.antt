@@ -32,9 +32,11 @@ file-read head layers s (h, forms, e) =
       rest = rw e (drop-append-seam h flat);
     }
 
-pub read-file : (head : List ℕ) (layers : List Layer) (s : List ℕ) → Bytes s → FileRead head layers s → File head layers s
+pub read-file : (head : List ℕ) (layers : List Layer) (s : List ℕ) → Bytes s → FileRead head layers s
+    → File head layers s
 read-file head layers s b f =
-    (take (f .end) s, reads-forms head s 0 (f .end) b (omega arith) (f .reads), sym (take-append-drop (f .end) s) ∙ ap (λ l. take (f .end) s ++ l) (f .rest))
+    let whole = sym (take-append-drop (f .end) s) ∙ ap (λ l. take (f .end) s ++ l) (f .rest) in
+    (take (f .end) s, reads-forms head s 0 (f .end) b (omega arith) (f .reads), whole)
 
 -- Layers whose numbers are read from `at` to `end`, and whose rows are what is left: all within their limits, in order and
 -- packings.
@@ -48,7 +50,8 @@ pub record LayersRead (limits : LayerLimits) (n r left room : ℕ) (s : List ℕ
 
 module _ (limits : LayerLimits) (n r left room : ℕ) (s : List ℕ) (at : ℕ) where
   -- The layers' numbers and rows are accepted exactly where they are read so.
-  pub layers-accepted : {head : LayerHeads} {layers : List Layer} → readLayers limits left room s at ≡ accepted head → checkRows n r (head .heads) s (head .next) ≡ accepted layers
+  pub layers-accepted : {head : LayerHeads} {layers : List Layer} → readLayers limits left room s at ≡ accepted head
+      → checkRows n r (head .heads) s (head .next) ≡ accepted layers
       → LayersRead limits n r left room s at (head .next) layers
   layers-accepted {head} {layers} e₁ e₂ =
       let (reads, within) = readLayers-accepted limits left room s at e₁ in
@@ -64,10 +67,12 @@ module _ (limits : LayerLimits) (n r left room : ℕ) (s : List ℕ) (at : ℕ) 
         packings = taken .packings;
       }
 
-  pub accepted-heads : {end : ℕ} {layers : List Layer} → LayersRead limits n r left room s at end layers → readLayers limits left room s at ≡ accepted (record { heads = headsOf layers; next = end })
+  pub accepted-heads : {end : ℕ} {layers : List Layer} → LayersRead limits n r left room s at end layers
+      → readLayers limits left room s at ≡ accepted (record { heads = headsOf layers; next = end })
   accepted-heads {end} {layers} l =
       accepted-readLayers limits left room s at (headsOf layers) end (l .reads) (l .within)
 
-  pub accepted-rows : {end : ℕ} {layers : List Layer} → LayersRead limits n r left room s at end layers → checkRows n r (headsOf layers) s end ≡ accepted layers
+  pub accepted-rows : {end : ℕ} {layers : List Layer} → LayersRead limits n r left room s at end layers
+      → checkRows n r (headsOf layers) s end ≡ accepted layers
   accepted-rows {end} {layers} l =
       accepted-checkRows n r (headsOf layers) s end (taken-of-bytes n r s end layers (l .inside) (l .rest) (l .rows) (l .packings))

@@ -22,7 +22,8 @@ within lo hi v e =
     (leb→le lo v (and-left (leb lo v) (leb v hi) (T-true e)), leb→le v hi (and-right (leb lo v) (leb v hi) (T-true e)))
 
 -- A number of the head is accepted exactly where it is read and within its limits.
-pub readWithin-accepted : (lo hi : ℕ) (s : List ℕ) (at : ℕ) {n : Reading} → readWithin lo hi s at ≡ accepted n → (readNumber s at ≡ accepted n) × ((lo ≤ n .value) × (n .value ≤ hi))
+pub readWithin-accepted : (lo hi : ℕ) (s : List ℕ) (at : ℕ) {n : Reading} → readWithin lo hi s at ≡ accepted n
+    → (readNumber s at ≡ accepted n) × ((lo ≤ n .value) × (n .value ≤ hi))
 unfolding readWithin
 readWithin-accepted lo hi s at {n} e =
     bind-elim (readNumber s at) _ e λ number read rest.
@@ -30,12 +31,14 @@ readWithin-accepted lo hi s at {n} e =
     let eq : number ≡ n = accepted-injective same in
     rw (← eq) (read, within lo hi (number .value) test)
 
-pub accepted-readWithin : (lo hi : ℕ) (s : List ℕ) (at : ℕ) {n : Reading} → readNumber s at ≡ accepted n → lo ≤ n .value → n .value ≤ hi → readWithin lo hi s at ≡ accepted n
+pub accepted-readWithin : (lo hi : ℕ) (s : List ℕ) (at : ℕ) {n : Reading} → readNumber s at ≡ accepted n → lo ≤ n .value
+    → n .value ≤ hi → readWithin lo hi s at ≡ accepted n
 unfolding readWithin
 accepted-readWithin lo hi s at {n} e l h = rw (e, le-leb lo (n .value) l, le-leb (n .value) hi h)
 
 -- The first number is accepted exactly where it is read and is the file's kind.
-pub readKind-accepted : (kind : ℕ) (s : List ℕ) {n : Reading} → readKind kind s ≡ accepted n → readNumber s 0 ≡ accepted (record { value = kind; next = n .next })
+pub readKind-accepted : (kind : ℕ) (s : List ℕ) {n : Reading} → readKind kind s ≡ accepted n
+    → readNumber s 0 ≡ accepted (record { value = kind; next = n .next })
 unfolding readKind
 readKind-accepted kind s {n} e =
     bind-elim (readNumber s 0) _ e λ first read rest.
@@ -44,7 +47,9 @@ readKind-accepted kind s {n} e =
     let eq : first ≡ n = accepted-injective same in
     read ∙ (λ i. accepted (record { value = is i; next = (eq i) .next }))
 
-pub accepted-readKind : (kind : ℕ) (s : List ℕ) {next : ℕ} → readNumber s 0 ≡ accepted (record { value = kind; next = next }) → readKind kind s ≡ accepted (record { value = kind; next = next })
+pub accepted-readKind : (kind : ℕ) (s : List ℕ) {next : ℕ}
+    → readNumber s 0 ≡ accepted (record { value = kind; next = next })
+    → readKind kind s ≡ accepted (record { value = kind; next = next })
 unfolding readKind
 accepted-readKind kind s e = rw (e, eq-eqb kind kind refl)
 
@@ -67,12 +72,14 @@ fit-le true zero room sum k = k
 fit-le true (suc left) room sum k = omega arith
 
 -- one layer's size, and those of the layers after it
-fit-cons : (full : Bool) (left room size sum : ℕ) → (left ≡ 0 → sum ≡ 0) → leastSize full left room ≤ size → size ≤ room → SizesFit full left (room - size) sum → SizesFit full (suc left) room (size + sum)
+fit-cons : (full : Bool) (left room size sum : ℕ) → (left ≡ 0 → sum ≡ 0) → leastSize full left room ≤ size → size ≤ room
+    → SizesFit full left (room - size) sum → SizesFit full (suc left) room (size + sum)
 fit-cons false left room size sum z l h k = omega arith
 fit-cons true zero room size sum z l h k = let none = z refl in omega arith
 fit-cons true (suc left) room size sum z l h k = omega arith
 
-least-of-fit : (full : Bool) (left room size sum : ℕ) → (left ≡ 0 → sum ≡ 0) → SizesFit full (suc left) room (size + sum) → leastSize full left room ≤ size
+least-of-fit : (full : Bool) (left room size sum : ℕ) → (left ≡ 0 → sum ≡ 0)
+    → SizesFit full (suc left) room (size + sum) → leastSize full left room ≤ size
 least-of-fit false left room size sum z k = omega arith
 least-of-fit true zero room size sum z k = let none = z refl in omega arith
 least-of-fit true (suc left) room size sum z k = omega arith
@@ -81,7 +88,8 @@ le-of-fit : (full : Bool) (left room size sum : ℕ) → SizesFit full (suc left
 le-of-fit false left room size sum k = omega arith
 le-of-fit true left room size sum k = omega arith
 
-fit-of-cons : (full : Bool) (left room size sum : ℕ) → SizesFit full (suc left) room (size + sum) → SizesFit full left (room - size) sum
+fit-of-cons : (full : Bool) (left room size sum : ℕ) → SizesFit full (suc left) room (size + sum)
+    → SizesFit full left (room - size) sum
 fit-of-cons false left room size sum k = omega arith
 fit-of-cons true zero room size sum k = omega arith
 fit-of-cons true (suc left) room size sum k = omega arith
@@ -97,7 +105,8 @@ sizes-none (head ∷ heads) e = omega arith
 
 -- the limits of one layer's numbers, and of those of the layers after it
 within-cons : (limits : LayerLimits) (left room : ℕ) (head : LayerHead) (heads : List LayerHead)
-    → (limits .lo ≤ head .bound) × (head .bound ≤ limits .hi) → leastSize (limits .full) left room ≤ head .size → head .size ≤ room
+    → (limits .lo ≤ head .bound) × (head .bound ≤ limits .hi) → leastSize (limits .full) left room ≤ head .size
+    → head .size ≤ room
     → HeadsWithin limits left (room - head .size) heads → HeadsWithin limits (suc left) room (head ∷ heads)
 unfolding total
 within-cons limits left room head heads b l h w =
@@ -107,13 +116,17 @@ within-cons limits left room head heads b l h w =
       fit = fit-cons (limits .full) left room (head .size) (sizes heads) (λ z. sizes-none heads (w .layer-each ∙ z)) l h (w .fit);
     }
 
-least-within : (limits : LayerLimits) (left room : ℕ) (head : LayerHead) (heads : List LayerHead) → HeadsWithin limits (suc left) room (head ∷ heads)
+least-within : (limits : LayerLimits) (left room : ℕ) (head : LayerHead) (heads : List LayerHead)
+    → HeadsWithin limits (suc left) room (head ∷ heads)
     → leastSize (limits .full) left room ≤ head .size
 unfolding total
 least-within limits left room head heads w =
-    least-of-fit (limits .full) left room (head .size) (sizes heads) (λ z. sizes-none heads (let e = w .layer-each in omega arith)) (w .fit)
+    let each = w .layer-each in
+    let none : left ≡ 0 → sizes heads ≡ 0 = λ z. sizes-none heads (omega arith) in
+    least-of-fit (limits .full) left room (head .size) (sizes heads) none (w .fit)
 
-within-rest : (limits : LayerLimits) (left room : ℕ) (head : LayerHead) (heads : List LayerHead) → HeadsWithin limits (suc left) room (head ∷ heads)
+within-rest : (limits : LayerLimits) (left room : ℕ) (head : LayerHead) (heads : List LayerHead)
+    → HeadsWithin limits (suc left) room (head ∷ heads)
     → HeadsWithin limits left (room - head .size) heads
 unfolding total
 within-rest limits left room head heads w =
@@ -125,7 +138,8 @@ within-rest limits left room head heads w =
 
 -- "for each x .. the numbers mu .. and m", "lambda .. and c": they are accepted exactly where they are read and within
 -- their limits
-pub readLayers-accepted : (limits : LayerLimits) (left room : ℕ) (s : List ℕ) (at : ℕ) {h : LayerHeads} → readLayers limits left room s at ≡ accepted h
+pub readLayers-accepted : (limits : LayerLimits) (left room : ℕ) (s : List ℕ) (at : ℕ) {h : LayerHeads}
+    → readLayers limits left room s at ≡ accepted h
     → Reads (headNumbers (h .heads)) s at (h .next) × HeadsWithin limits left room (h .heads)
 unfolding readLayers headNumbers total
 readLayers-accepted limits zero room s at e =
@@ -143,15 +157,24 @@ readLayers-accepted limits (suc left) room s at e =
     let head : LayerHead = record { bound = bound .value; size = size .value } in
     subst
     (λ h. Reads (headNumbers (h .heads)) s at (h .next) × HeadsWithin limits (suc left) room (h .heads))
-    (accepted-injective r₃)
-    ((bound .next, read₁, (size .next, read₂, reads)), within-cons limits left room head (rest .heads) within₁ (within₂ .0) (within₂ .1) heads)
+    (accepted-injective r₃) (
+      (bound .next, read₁, (size .next, read₂, reads)),
+      within-cons limits left room head (rest .heads) within₁ (within₂ .0) (within₂ .1) heads,
+    )
 
-pub accepted-readLayers : (limits : LayerLimits) (left room : ℕ) (s : List ℕ) (at : ℕ) (heads : List LayerHead) (next : ℕ) → Reads (headNumbers heads) s at next
-    → HeadsWithin limits left room heads → readLayers limits left room s at ≡ accepted (record { heads = heads; next = next })
+pub accepted-readLayers : (limits : LayerLimits) (left room : ℕ) (s : List ℕ) (at : ℕ) (heads : List LayerHead) (next : ℕ)
+    → Reads (headNumbers heads) s at next
+    → HeadsWithin limits left room heads
+    → readLayers limits left room s at ≡ accepted (record { heads = heads; next = next })
 unfolding readLayers headNumbers total
 accepted-readLayers limits zero room s at [] next reads w = rw reads
 accepted-readLayers limits zero room s at (head ∷ heads) next reads w = let e = w .layer-each in absurd (omega arith)
 accepted-readLayers limits (suc left) room s at [] next reads w = let e = w .layer-each in absurd (omega arith)
 accepted-readLayers limits (suc left) room s at (head ∷ heads) next (p, read₁, (q, read₂, reads)) w =
-    rw
-    (accepted-readWithin (limits .lo) (limits .hi) s at read₁ (w .bounds .0 .0) (w .bounds .0 .1), accepted-readWithin (leastSize (limits .full) left room) room s p read₂ (least-within limits left room head heads w) (le-of-fit (limits .full) left room (head .size) (sizes heads) (w .fit)), accepted-readLayers limits left (room - head .size) s q heads next reads (within-rest limits left room head heads w))
+    let least = least-within limits left room head heads w in
+    let most = le-of-fit (limits .full) left room (head .size) (sizes heads) (w .fit) in
+    rw (
+      accepted-readWithin (limits .lo) (limits .hi) s at read₁ (w .bounds .0 .0) (w .bounds .0 .1),
+      accepted-readWithin (leastSize (limits .full) left room) room s p read₂ least most,
+      accepted-readLayers limits left (room - head .size) s q heads next reads (within-rest limits left room head heads w),
+    )

@@ -31,12 +31,17 @@ rowsAt-lengths r zero s h = tt
 rowsAt-lengths r (suc c) s h =
     (length-take-le r s (omega arith), rowsAt-lengths r c (drop r s) (rw length-drop (omega arith)))
 
-pub rowsAt-flatten : (r : ℕ) (rows : List (List ℕ)) (t : List ℕ) → All (λ row. length row ≡ r) rows → rowsAt r (length rows) (flatten rows ++ t) ≡ rows
+pub rowsAt-flatten : (r : ℕ) (rows : List (List ℕ)) (t : List ℕ) → All (λ row. length row ≡ r) rows
+    → rowsAt r (length rows) (flatten rows ++ t) ≡ rows
 unfolding rowsAt flatten
 rowsAt-flatten r [] t h = refl
 rowsAt-flatten r (row ∷ rows) t h =
-    rw
-    (append-assoc row (flatten rows) t, take-at row (flatten rows ++ t) r (h .0), drop-at row (flatten rows ++ t) r (h .0), rowsAt-flatten r rows t (h .1))
+    rw (
+      append-assoc row (flatten rows) t,
+      take-at row (flatten rows ++ t) r (h .0),
+      drop-at row (flatten rows ++ t) r (h .0),
+      rowsAt-flatten r rows t (h .1),
+    )
 
 -- layers have as many rows as their numbers in the head say
 pub length-allRows : (layers : List Layer) → length (allRows layers) ≡ sizes (headsOf layers)
@@ -52,17 +57,24 @@ headsOf-layersAt r (head ∷ heads) s =
     rw (length-rowsAt r (head .size) s, headsOf-layersAt r heads (drop (head .size * r) s))
 
 -- the layers' rows one after another are the bytes that the layers were taken from
-pub flatten-layersAt : (r : ℕ) (heads : List LayerHead) (s : List ℕ) → flatten (allRows (layersAt r heads s)) ≡ take (sizes heads * r) s
+pub flatten-layersAt : (r : ℕ) (heads : List LayerHead) (s : List ℕ)
+    → flatten (allRows (layersAt r heads s)) ≡ take (sizes heads * r) s
 unfolding layersAt flatten total
 flatten-layersAt r [] s = rw zero-mul
 flatten-layersAt r (head ∷ heads) s =
     let a = rowsAt r (head .size) s in
     let rest = layersAt r heads (drop (head .size * r) s) in
     let e : (head .size + sizes heads) * r ≡ head .size * r + sizes heads * r = omega arith in
-    rw
-    (flatten-append a (allRows rest), flatten-rowsAt r (head .size) s, flatten-layersAt r heads (drop (head .size * r) s), e, take-add (head .size * r) (sizes heads * r) s)
+    rw (
+      flatten-append a (allRows rest),
+      flatten-rowsAt r (head .size) s,
+      flatten-layersAt r heads (drop (head .size * r) s),
+      e,
+      take-add (head .size * r) (sizes heads * r) s,
+    )
 
-pub layersAt-lengths : (r : ℕ) (heads : List LayerHead) (s : List ℕ) → sizes heads * r ≤ length s → All (λ row. length row ≡ r) (allRows (layersAt r heads s))
+pub layersAt-lengths : (r : ℕ) (heads : List LayerHead) (s : List ℕ) → sizes heads * r ≤ length s
+    → All (λ row. length row ≡ r) (allRows (layersAt r heads s))
 unfolding layersAt flatten total
 layersAt-lengths r [] s h = tt
 layersAt-lengths r (head ∷ heads) s h =
@@ -74,12 +86,18 @@ layersAt-lengths r (head ∷ heads) s h =
     (layersAt-lengths r heads (drop (head .size * r) s) (rw length-drop (omega arith)))
 
 -- and layers whose rows have r nodes each are what their rows one after another are taken apart into
-pub layersAt-flatten : (r : ℕ) (layers : List Layer) (t : List ℕ) → All (λ row. length row ≡ r) (allRows layers) → layersAt r (headsOf layers) (flatten (allRows layers) ++ t) ≡ layers
+pub layersAt-flatten : (r : ℕ) (layers : List Layer) (t : List ℕ) → All (λ row. length row ≡ r) (allRows layers)
+    → layersAt r (headsOf layers) (flatten (allRows layers) ++ t) ≡ layers
 unfolding layersAt flatten
 layersAt-flatten r [] t h = refl
 layersAt-flatten r (layer ∷ layers) t h =
     let first = all-append-left (λ row. length row ≡ r) (layer .rows) (allRows layers) h in
     let rest = all-append-right (λ row. length row ≡ r) (layer .rows) (allRows layers) h in
     let after = flatten (allRows layers) ++ t in
-    rw
-    (flatten-append (layer .rows) (allRows layers), append-assoc (flatten (layer .rows)) (flatten (allRows layers)) t, rowsAt-flatten r (layer .rows) after first, drop-at (flatten (layer .rows)) after (size layer * r) (length-flatten r (layer .rows) first), layersAt-flatten r layers t rest)
+    rw (
+      flatten-append (layer .rows) (allRows layers),
+      append-assoc (flatten (layer .rows)) (flatten (allRows layers)) t,
+      rowsAt-flatten r (layer .rows) after first,
+      drop-at (flatten (layer .rows)) after (size layer * r) (length-flatten r (layer .rows) first),
+      layersAt-flatten r layers t rest,
+    )

@@ -14,10 +14,14 @@ module _ {A : Type 0} where
   -- the elements from a to c are those from a to b and those from b to c
   pub slice-append : (a b c : ℕ) (l : List A) → a ≤ b → b ≤ c → c ≤ length l → slice a c l ≡ slice a b l ++ slice b c l
   slice-append a b c l h k le =
-      let split : take c l ≡ take b l ++ take (c - b) (drop b l) = (let e : c ≡ b + (c - b) = omega arith in ap (λ n. take n l) e) ∙ take-add b (c - b) l in
+      let sum : c ≡ b + (c - b) = omega arith in
+      let split : take c l ≡ take b l ++ take (c - b) (drop b l) = ap (λ n. take n l) sum ∙ take-add b (c - b) l in
       let len = length-take-le b l (omega arith) in
-      rw
-      (split, drop-append-le a (take b l) (take (c - b) (drop b l)) (omega arith), drop-at (take b l) (take (c - b) (drop b l)) b len)
+      rw (
+        split,
+        drop-append-le a (take b l) (take (c - b) (drop b l)) (omega arith),
+        drop-at (take b l) (take (c - b) (drop b l)) b len,
+      )
 
   pub all-both : (P Q : A → Type 0) (l : List A) → All P l → All Q l → All (λ a. P a × Q a) l
   all-both P Q [] h g = tt
@@ -37,7 +41,8 @@ module _ {A : Type 0} where
       omega (arith, length-append l (flatten ls))
 
   -- what looks only at a list's first m elements is shown for lists that have m
-  pub take-elim : {B : Type 0} (f : List A → B) (m : ℕ) (l : List A) → (m ≤ length l → f (take m l) ≡ f l) → f (take m l) ≡ f l
+  pub take-elim : {B : Type 0} (f : List A → B) (m : ℕ) (l : List A) → (m ≤ length l → f (take m l) ≡ f l)
+      → f (take m l) ≡ f l
   take-elim f m l h = go (leb m (length l)) refl
     where
       go : (b : Bool) → leb m (length l) ≡ b → f (take m l) ≡ f l

@@ -43,7 +43,14 @@ pub reads-forms : (vs s : List ℕ) (at end : ℕ) → Bytes s → at ≤ length
 reads-forms [] s at end b k h = rw (← h) (slice-empty at s)
 reads-forms (v ∷ vs) s at end b k h =
     let first = read-form s at b (h .1) in
-    (slice at (h .0) s, slice (h .0) end s, slice-append at (h .0) end s (omega arith) (reads-le vs s (h .0) end (h .2)) (reads-le-length vs s (h .0) end (first .1) (h .2)), first .2, reads-forms vs s (h .0) end b (first .1) (h .2))
+    let mid = h .0 in
+    let most = reads-le-length vs s mid end (first .1) (h .2) in (
+      slice at mid s,
+      slice mid end s,
+      slice-append at mid end s (omega arith) (reads-le vs s mid end (h .2)) most,
+      first .2,
+      reads-forms vs s mid end b (first .1) (h .2),
+    )
 
 -- numbers that stand there in their forms are read
 pub forms-reads : (vs pre f t : List ℕ) → Forms vs f → Reads vs (pre ++ (f ++ t)) (length pre) (length pre + length f)
@@ -53,5 +60,5 @@ forms-reads (v ∷ vs) pre f t h =
     let k = h .1 in
     let rest = forms-reads vs (pre ++ g) k t (h .4) in
     let end : length pre + length g + length k ≡ length pre + length (g ++ k) = omega (arith, length-append g k) in
-    let rest′ : Reads vs (pre ++ (g ++ (k ++ t))) (length pre + length g) (length pre + length (g ++ k)) = rw (append-assoc pre g (k ++ t), length-append pre g, end) at rest in
+    let rest′ = rw (append-assoc pre g (k ++ t), length-append pre g, end) at rest in
     rw (h .2, append-assoc g k t) (length pre + length g, form-read pre (k ++ t) (h .3), rest′)

@@ -20,7 +20,8 @@ use Rattle.layers.proofs.Heads.{fit-le, readWithin-accepted, readKind-a
 pub readKind-next : (kind : ℕ) (s : List ℕ) {n : Reading} → readKind kind s ≡ accepted n → n .next ≤ 4
 readKind-next kind s e = omega (arith, read-next s 0 (readKind-accepted kind s e))
 
-pub readWithin-next : (lo hi : ℕ) (s : List ℕ) (at : ℕ) {n : Reading} → readWithin lo hi s at ≡ accepted n → n .next ≤ at + 4
+pub readWithin-next : (lo hi : ℕ) (s : List ℕ) (at : ℕ) {n : Reading} → readWithin lo hi s at ≡ accepted n
+    → n .next ≤ at + 4
 readWithin-next lo hi s at e = read-next s at (readWithin-accepted lo hi s at e .0) .0
 
 length-headNumbers : (heads : List LayerHead) → length (headNumbers heads) ≡ length heads * 2
@@ -38,7 +39,8 @@ module _ (m : ℕ) (s : List ℕ) (long : m ≤ length s) where
   unfolding readWithin
   readWithin-take lo hi at h = rw (read-local m s at h long)
 
-  pub readLayers-take : (limits : LayerLimits) (left room at : ℕ) → at + left * 8 ≤ m → readLayers limits left room (take m s) at ≡ readLayers limits left room s at
+  pub readLayers-take : (limits : LayerLimits) (left room at : ℕ) → at + left * 8 ≤ m
+      → readLayers limits left room (take m s) at ≡ readLayers limits left room s at
   unfolding readLayers
   readLayers-take limits zero room at h = refl
   readLayers-take limits (suc left) room at h =
@@ -49,15 +51,22 @@ module _ (m : ℕ) (s : List ℕ) (long : m ≤ length s) where
       bind-congr _ _ _ _ (readLayers-take limits left (room - size .value) (size .next) (omega arith)) (λ rest e₃. refl)
 
   -- Rows that end before m: the bytes from there to m are trailing, and so are all.
-  pub checkRows-take : (n r : ℕ) (heads : List LayerHead) (at : ℕ) → at + sizes heads * r < m → checkRows n r heads (take m s) at ≡ checkRows n r heads s at
+  pub checkRows-take : (n r : ℕ) (heads : List LayerHead) (at : ℕ) → at + sizes heads * r < m
+      → checkRows n r heads (take m s) at ≡ checkRows n r heads s at
   unfolding checkRows
   checkRows-take n r heads at h =
       let end = at + sizes heads * r in
-      rw
-      (length-take-le m s long, le-leb end m (omega arith), lt-leb m end h, le-leb end (length s) (omega arith), lt-leb (length s) end (omega arith))
+      rw (
+        length-take-le m s long,
+        le-leb end m (omega arith),
+        lt-leb m end h,
+        le-leb end (length s) (omega arith),
+        lt-leb (length s) end (omega arith),
+      )
 
 -- what the layers' numbers allow for: eight bytes a layer, and `room` rows
-pub rows-end : (limits : LayerLimits) (left room r : ℕ) (s : List ℕ) (at : ℕ) {head : LayerHeads} → readLayers limits left room s at ≡ accepted head
+pub rows-end : (limits : LayerLimits) (left room r : ℕ) (s : List ℕ) (at : ℕ) {head : LayerHeads}
+    → readLayers limits left room s at ≡ accepted head
     → head .next + sizes (head .heads) * r ≤ at + left * 8 + room * r
 rows-end limits left room r s at {head} e =
     let (reads, within) = readLayers-accepted limits left room s at e in
@@ -68,7 +77,8 @@ rows-end limits left room r s at {head} e =
     omega arith
 
 -- The layers' numbers and rows, checked one after the other.
-pub layers-take : (limits : LayerLimits) (n r left room : ℕ) (s : List ℕ) (at m : ℕ) {head : LayerHeads} → m ≤ length s → readLayers limits left room (take m s) at ≡ accepted head → at + left * 8 + room * r < m
+pub layers-take : (limits : LayerLimits) (n r left room : ℕ) (s : List ℕ) (at m : ℕ) {head : LayerHeads} → m ≤ length s
+    → readLayers limits left room (take m s) at ≡ accepted head → at + left * 8 + room * r < m
     → checkRows n r (head .heads) (take m s) (head .next) ≡ checkRows n r (head .heads) s (head .next)
 layers-take limits n r left room s at m {head} long e h =
     let end = rows-end limits left room r (take m s) at e in

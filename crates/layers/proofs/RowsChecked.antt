@@ -22,7 +22,8 @@ use Rattle.layers.proofs.Layouts.{length-allRows, headsOf-layersAt, fla
 use Rattle.layers.proofs.Packings.{packings-iff-uncrowded}
 
 -- no row is refused exactly where none was found
-pub refuseRow-bind-accepted : {B : Type 0} (refusal : ℕ → Refusal) (r at : ℕ) (o : Option ℕ) (f : Unit → Checked B) {b : B} → (refuseRow refusal r at o >>= f) ≡ accepted b → (o ≡ none) × (f tt ≡ accepted b)
+pub refuseRow-bind-accepted : {B : Type 0} (refusal : ℕ → Refusal) (r at : ℕ) (o : Option ℕ) (f : Unit → Checked B) {b : B}
+    → (refuseRow refusal r at o >>= f) ≡ accepted b → (o ≡ none) × (f tt ≡ accepted b)
 refuseRow-bind-accepted refusal r at none f e = (refl, e)
 refuseRow-bind-accepted refusal r at (some i) f e = absurd (refused-not-accepted e)
 
@@ -34,7 +35,8 @@ pub record RowsTaken (n r : ℕ) (heads : List LayerHead) (s : List ℕ) (at : �
   pub packings : Packings 0 layers
 
 -- "Then 1 or 5 for the rows' total length, then 6 over all rows, then 7": none of these exactly where the rows are so
-pub checkRows-accepted : (n r : ℕ) (heads : List LayerHead) (s : List ℕ) (at : ℕ) {layers : List Layer} → checkRows n r heads s at ≡ accepted layers → RowsTaken n r heads s at layers
+pub checkRows-accepted : (n r : ℕ) (heads : List LayerHead) (s : List ℕ) (at : ℕ) {layers : List Layer}
+    → checkRows n r heads s at ≡ accepted layers → RowsTaken n r heads s at layers
 unfolding checkRows
 checkRows-accepted n r heads s at e =
     let layers = layersAt r heads (drop at s) in
@@ -45,7 +47,9 @@ checkRows-accepted n r heads s at e =
     let (t₄, e₄) = refuseRow-bind-accepted Crowded r at (firstCrowdedOf 0 layers) _ e₃ in
     let least = leb-true end (length s) t₁ in
     let most = leb-true (length s) end t₂ in
-    let rows = all-both (λ row. length row ≡ r) (λ row. T (inOrder n row)) (allRows layers) (layersAt-lengths r heads (drop at s) (rw length-drop (omega arith))) (good-iff-in-order n (allRows layers) .0 t₃) in
+    let lengths = layersAt-lengths r heads (drop at s) (rw length-drop (omega arith)) in
+    let ordered = good-iff-in-order n (allRows layers) .0 t₃ in
+    let rows = all-both (λ row. length row ≡ r) (λ row. T (inOrder n row)) (allRows layers) lengths ordered in
     subst
     (RowsTaken n r heads s at)
     (accepted-injective e₄)
@@ -56,28 +60,39 @@ checkRows-accepted n r heads s at e =
       packings = packings-iff-uncrowded n r 0 layers rows .0 t₄;
     })
 
-pub accepted-checkRows : (n r : ℕ) (heads : List LayerHead) (s : List ℕ) (at : ℕ) {layers : List Layer} → RowsTaken n r heads s at layers → checkRows n r heads s at ≡ accepted layers
+pub accepted-checkRows : (n r : ℕ) (heads : List LayerHead) (s : List ℕ) (at : ℕ) {layers : List Layer}
+    → RowsTaken n r heads s at layers → checkRows n r heads s at ≡ accepted layers
 unfolding checkRows
 accepted-checkRows n r heads s at {layers} h =
     let e = h .ends in
     let ordered = all-imp (Row n r) (λ row. T (inOrder n row)) (λ row g. g .1) (allRows layers) (h .rows) in
-    rw
-    (le-leb (at + sizes heads * r) (length s) (omega arith), le-leb (length s) (at + sizes heads * r) (omega arith), h .taken, good-iff-in-order n (allRows layers) .1 ordered, packings-iff-uncrowded n r 0 layers (h .rows) .1 (h .packings))
+    rw (
+      le-leb (at + sizes heads * r) (length s) (omega arith),
+      le-leb (length s) (at + sizes heads * r) (omega arith),
+      h .taken,
+      good-iff-in-order n (allRows layers) .1 ordered,
+      packings-iff-uncrowded n r 0 layers (h .rows) .1 (h .packings),
+    )
 
 -- Such layers have the head's numbers, and their rows one after another are the rest of the bytes.
-pub taken-heads : (n r : ℕ) (heads : List LayerHead) (s : List ℕ) (at : ℕ) {layers : List Layer} → RowsTaken n r heads s at layers → headsOf layers ≡ heads
+pub taken-heads : (n r : ℕ) (heads : List LayerHead) (s : List ℕ) (at : ℕ) {layers : List Layer}
+    → RowsTaken n r heads s at layers → headsOf layers ≡ heads
 taken-heads n r heads s at h = rw (← h .taken) (headsOf-layersAt r heads (drop at s))
 
-pub taken-bytes : (n r : ℕ) (heads : List LayerHead) (s : List ℕ) (at : ℕ) {layers : List Layer} → RowsTaken n r heads s at layers → drop at s ≡ flatten (allRows layers)
+pub taken-bytes : (n r : ℕ) (heads : List LayerHead) (s : List ℕ) (at : ℕ) {layers : List Layer}
+    → RowsTaken n r heads s at layers → drop at s ≡ flatten (allRows layers)
 taken-bytes n r heads s at h =
     let e = h .ends in
-    rw (← h .taken) (sym (flatten-layersAt r heads (drop at s) ∙ take-all (sizes heads * r) (drop at s) (rw length-drop (omega arith))))
+    let all = take-all (sizes heads * r) (drop at s) (rw length-drop (omega arith)) in
+    rw (← h .taken) (sym (flatten-layersAt r heads (drop at s) ∙ all))
 
 -- Rows that are the rest of the bytes are taken apart into their layers.
-pub taken-of-bytes : (n r : ℕ) (s : List ℕ) (at : ℕ) (layers : List Layer) → at ≤ length s → drop at s ≡ flatten (allRows layers) → All (Row n r) (allRows layers) → Packings 0 layers → RowsTaken n r (headsOf layers) s at layers
+pub taken-of-bytes : (n r : ℕ) (s : List ℕ) (at : ℕ) (layers : List Layer) → at ≤ length s
+    → drop at s ≡ flatten (allRows layers) → All (Row n r) (allRows layers) → Packings 0 layers
+    → RowsTaken n r (headsOf layers) s at layers
 taken-of-bytes n r s at layers inside bytes rows packings =
     let lengths = all-imp (Row n r) (λ row. length row ≡ r) (λ row g. g .0) (allRows layers) rows in
-    let len : length (flatten (allRows layers)) ≡ sizes (headsOf layers) * r = length-flatten r (allRows layers) lengths ∙ ap (λ c. c * r) (length-allRows layers) in
+    let len = length-flatten r (allRows layers) lengths ∙ ap (λ c. c * r) (length-allRows layers) in
     record {
       ends = let d = ap length bytes in omega (arith, length-drop at s);
       taken = rw (bytes, ← append-nil (flatten (allRows layers))) (layersAt-flatten r layers [] lengths);

@@ -25,7 +25,8 @@ heads-within p l =
     }
 
 -- the pack of a head that was accepted is within its limits
-pack-limits : (n r : ℕ) (layers : List Layer) → (2 ≤ n) × (n ≤ 255) → (2 ≤ r) × (r ≤ min 5 n) → HeadsWithin packLayerLimits r 4_096 (headsOf layers) → PackLimits (record { n = n; r = r; layers = layers })
+pack-limits : (n r : ℕ) (layers : List Layer) → (2 ≤ n) × (n ≤ 255) → (2 ≤ r) × (r ≤ min 5 n)
+    → HeadsWithin packLayerLimits r 4_096 (headsOf layers) → PackLimits (record { n = n; r = r; layers = layers })
 pack-limits n r layers a b w =
     record {
       n-least = a .0;
@@ -38,10 +39,16 @@ pack-limits n r layers a b w =
       blocks-most = w .fit;
     }
 
+-- the pack of the parts that were accepted
+abbrev packOf : (n r : Reading) (layers : List Layer) → Pack
+packOf n r layers = record { n = n .value; r = r .value; layers = layers }
+
 -- what is accepted was read as a file, and is good
-pack-of-parts : (s : List ℕ) (kind n r : Reading) (end : ℕ) (layers : List Layer) → readKind 1 s ≡ accepted kind → readWithin 2 255 s (kind .next) ≡ accepted n
-    → readWithin 2 (min 5 (n .value)) s (n .next) ≡ accepted r → LayersRead packLayerLimits (n .value) (r .value) (r .value) 4_096 s (r .next) end layers
-    → FileRead (packNumbers (record { n = n .value; r = r .value; layers = layers })) layers s × GoodPack (record { n = n .value; r = r .value; layers = layers })
+pack-of-parts : (s : List ℕ) (kind n r : Reading) (end : ℕ) (layers : List Layer) → readKind 1 s ≡ accepted kind
+    → readWithin 2 255 s (kind .next) ≡ accepted n
+    → readWithin 2 (min 5 (n .value)) s (n .next) ≡ accepted r
+    → LayersRead packLayerLimits (n .value) (r .value) (r .value) 4_096 s (r .next) end layers
+    → FileRead (packNumbers (packOf n r layers)) layers s × GoodPack (packOf n r layers)
 pack-of-parts s kind n r end layers e₁ e₂ e₃ l =
     let (read₂, within₂) = readWithin-accepted 2 255 s (kind .next) e₂ in
     let (read₃, within₃) = readWithin-accepted 2 (min 5 (n .value)) s (n .next) e₃ in (
@@ -66,10 +73,11 @@ pack-accepted s p e =
     bind-elim (readWithin 2 (min 5 (n .value)) s (n .next)) _ r₂ λ r e₃ r₃.
     bind-elim (readLayers packLayerLimits (r .value) 4_096 s (r .next)) _ r₃ λ head e₄ r₄.
     bind-elim (checkRows (n .value) (r .value) (head .heads) s (head .next)) _ r₄ λ layers e₅ r₅.
+    let l = layers-accepted packLayerLimits (n .value) (r .value) (r .value) 4_096 s (r .next) e₄ e₅ in
     subst
     (λ p. FileRead (packNumbers p) (p .layers) s × GoodPack p)
     (accepted-injective r₅)
-    (pack-of-parts s kind n r (head .next) layers e₁ e₂ e₃ (layers-accepted packLayerLimits (n .value) (r .value) (r .value) 4_096 s (r .next) e₄ e₅))
+    (pack-of-parts s kind n r (head .next) layers e₁ e₂ e₃ l)
 
 accepted-pack : (s : List ℕ) (p : Pack) → FileRead (packNumbers p) (p .layers) s → GoodPack p → checkPack s ≡ accepted p
 unfolding checkPack
@@ -84,8 +92,13 @@ accepted-pack s p f g =
       rows = g .rows;
       packings = g .packings;
     } in
-    rw
-    (accepted-readKind 1 s read₁, accepted-readWithin 2 255 s at₁ read₂ (l .n-least) (l .n-most), accepted-readWithin 2 (min 5 (p .n)) s at₂ read₃ (l .r-least) (omega arith), accepted-heads packLayerLimits (p .n) (p .r) (p .r) 4_096 s at₃ layers, accepted-rows packLayerLimits (p .n) (p .r) (p .r) 4_096 s at₃ layers)
+    rw (
+      accepted-readKind 1 s read₁,
+      accepted-readWithin 2 255 s at₁ read₂ (l .n-least) (l .n-most),
+      accepted-readWithin 2 (min 5 (p .n)) s at₂ read₃ (l .r-least) (omega arith),
+      accepted-heads packLayerLimits (p .n) (p .r) (p .r) 4_096 s at₃ layers,
+      accepted-rows packLayerLimits (p .n) (p .r) (p .r) 4_096 s at₃ layers,
+    )
 
 -- Demand 2: the check accepts exactly the files of packs within limits, with rows in order and a packing in every layer,
 -- and its result is that pack.

@@ -30,11 +30,14 @@ full-fit zero room sum e = omega arith
 full-fit (suc left) room sum e = e
 
 -- a placement's layers within their limits, in the terms of the head
-heads-within : (p : Placement) → PlacementLimits p → HeadsWithin placementLayerLimits (p .s) (p .b) (headsOf (p .layers))
+heads-within : (p : Placement) → PlacementLimits p
+    → HeadsWithin placementLayerLimits (p .s) (p .b) (headsOf (p .layers))
 heads-within p l =
     record {
       layer-each = length-map (p .layers) _ ∙ l .layer-each;
-      bounds = all-map _ _ (p .layers) (all-imp (λ layer. layer .bound ≤ 16_777_216) _ (λ layer h. (omega arith, h)) (p .layers) (l .lambda-most));
+      bounds =
+          all-map _ _ (p .layers)
+          (all-imp (λ layer. layer .bound ≤ 16_777_216) _ (λ layer h. (omega arith, h)) (p .layers) (l .lambda-most));
       fit = full-fit (p .s) (p .b) (sizes (headsOf (p .layers))) (l .records-all);
     }
 
@@ -68,7 +71,8 @@ record HeadAccepted (bytes : List ℕ) (kind n r s k b figure : Reading) : Type 
 
 module _ (bytes : List ℕ) (kind n r s k b figure : Reading) (a : HeadAccepted bytes kind n r s k b figure) (end : ℕ) (layers : List Layer) where
   -- what is accepted is within its limits, and was read as a file
-  limits-of-parts : HeadsWithin placementLayerLimits (s .value) (b .value) (headsOf layers) → PlacementLimits (placementOf n r s k b figure layers)
+  limits-of-parts : HeadsWithin placementLayerLimits (s .value) (b .value) (headsOf layers)
+      → PlacementLimits (placementOf n r s k b figure layers)
   limits-of-parts w =
       let n-within = readWithin-accepted 2 255 bytes (kind .next) (a .n-read) .1 in
       let r-within = readWithin-accepted 2 (min 5 (n .value)) bytes (n .next) (a .r-read) .1 in
@@ -103,12 +107,29 @@ module _ (bytes : List ℕ) (kind n r s k b figure : Reading) (a : HeadAccepted 
       let figure-read = readWithin-accepted 0 (b .value) bytes (b .next) (a .figure-read) .0 in
       record {
         end = end;
-        reads = (kind .next, readKind-accepted 2 bytes (a .kind-read), (n .next, n-read, (r .next, r-read, (s .next, s-read, (k .next, k-read, (b .next, b-read, (figure .next, figure-read, l .reads)))))));
+        reads = (
+          kind .next,
+          readKind-accepted 2 bytes (a .kind-read),
+          (
+            n .next,
+            n-read,
+            (
+              r .next,
+              r-read,
+              (
+                s .next,
+                s-read,
+                (k .next, k-read, (b .next, b-read, (figure .next, figure-read, l .reads))),
+              ),
+            ),
+          ),
+        );
         inside = l .inside;
         rest = l .rest;
       }
 
-placement-accepted : (bytes : List ℕ) (p : Placement) → checkPlacement bytes ≡ accepted p → FileRead (placementNumbers p) (p .layers) bytes × GoodPlacement p
+placement-accepted : (bytes : List ℕ) (p : Placement) → checkPlacement bytes ≡ accepted p
+    → FileRead (placementNumbers p) (p .layers) bytes × GoodPlacement p
 unfolding checkPlacement
 placement-accepted bytes p e =
     bind-elim (readKind 2 bytes) _ e λ kind e₁ r₁.
@@ -120,8 +141,18 @@ placement-accepted bytes p e =
     bind-elim (readWithin 0 (b .value) bytes (b .next)) _ r₆ λ figure e₇ r₇.
     bind-elim (readLayers placementLayerLimits (s .value) (b .value) bytes (figure .next)) _ r₇ λ head e₈ r₈.
     bind-elim (checkRows (n .value) (r .value) (head .heads) bytes (head .next)) _ r₈ λ layers e₉ r₉.
-    let (test, same) = require-bind-accepted (eqb (figure .value) (figureOf (s .value) (k .value) (b .value) (headsOf layers))) (WrongFigure (b .next)) _ r₉ in
-    let a : HeadAccepted bytes kind n r s k b figure = record { kind-read = e₁; n-read = e₂; r-read = e₃; s-read = e₄; k-read = e₅; b-read = e₆; figure-read = e₇ } in
+    let formula = figureOf (s .value) (k .value) (b .value) (headsOf layers) in
+    let (test, same) = require-bind-accepted (eqb (figure .value) formula) (WrongFigure (b .next)) _ r₉ in
+    let a : HeadAccepted bytes kind n r s k b figure =
+    record {
+      kind-read = e₁;
+      n-read = e₂;
+      r-read = e₃;
+      s-read = e₄;
+      k-read = e₅;
+      b-read = e₆;
+      figure-read = e₇;
+    } in
     let l = layers-accepted placementLayerLimits (n .value) (r .value) (s .value) (b .value) bytes (figure .next) e₈ e₉ in
     subst
     (λ p. FileRead (placementNumbers p) (p .layers) bytes × GoodPlacement p)
@@ -131,16 +162,18 @@ placement-accepted bytes p e =
         limits = limits-of-parts bytes kind n r s k b figure a (head .next) layers (l .within);
         rows = l .rows;
         packings = l .packings;
-        formula = eqb-true (figure .value) (figureOf (s .value) (k .value) (b .value) (headsOf layers)) test;
+        formula = eqb-true (figure .value) formula test;
       },
     )
 
-accepted-placement : (bytes : List ℕ) (p : Placement) → FileRead (placementNumbers p) (p .layers) bytes → GoodPlacement p → checkPlacement bytes ≡ accepted p
+accepted-placement : (bytes : List ℕ) (p : Placement) → FileRead (placementNumbers p) (p .layers) bytes
+    → GoodPlacement p → checkPlacement bytes ≡ accepted p
 unfolding checkPlacement
 accepted-placement bytes p f g =
     let (at₁, read₁, (at₂, read₂, (at₃, read₃, (at₄, read₄, (at₅, read₅, (at₆, read₆, (at₇, read₇, reads))))))) = f .reads in
     let l = g .limits in
     let formula = g .formula in
+    let figure-most = figure-le (p .s) (p .k) (p .b) (headsOf (p .layers)) in
     let layers : LayersRead placementLayerLimits (p .n) (p .r) (p .s) (p .b) bytes at₇ (f .end) (p .layers) = record {
       reads = reads;
       within = heads-within p l;
@@ -149,12 +182,23 @@ accepted-placement bytes p f g =
       rows = g .rows;
       packings = g .packings;
     } in
-    rw
-    (accepted-readKind 2 bytes read₁, accepted-readWithin 2 255 bytes at₁ read₂ (l .n-least) (l .n-most), accepted-readWithin 2 (min 5 (p .n)) bytes at₂ read₃ (l .r-least) (omega arith), accepted-readWithin 1 (p .r) bytes at₃ read₄ (l .s-least) (l .s-most), accepted-readWithin (p .s) (p .n - 1) bytes at₄ read₅ (l .k-least) (omega arith), accepted-readWithin 1 4_096 bytes at₅ read₆ (l .b-least) (l .b-most), accepted-readWithin 0 (p .b) bytes at₆ read₇ (omega arith) (omega (arith, figure-le (p .s) (p .k) (p .b) (headsOf (p .layers)))), accepted-heads placementLayerLimits (p .n) (p .r) (p .s) (p .b) bytes at₇ layers, accepted-rows placementLayerLimits (p .n) (p .r) (p .s) (p .b) bytes at₇ layers, eq-eqb (p .figure) (figureOf (p .s) (p .k) (p .b) (headsOf (p .layers))) formula)
+    rw (
+      accepted-readKind 2 bytes read₁,
+      accepted-readWithin 2 255 bytes at₁ read₂ (l .n-least) (l .n-most),
+      accepted-readWithin 2 (min 5 (p .n)) bytes at₂ read₃ (l .r-least) (omega arith),
+      accepted-readWithin 1 (p .r) bytes at₃ read₄ (l .s-least) (l .s-most),
+      accepted-readWithin (p .s) (p .n - 1) bytes at₄ read₅ (l .k-least) (omega arith),
+      accepted-readWithin 1 4_096 bytes at₅ read₆ (l .b-least) (l .b-most),
+      accepted-readWithin 0 (p .b) bytes at₆ read₇ (omega arith) (omega arith),
+      accepted-heads placementLayerLimits (p .n) (p .r) (p .s) (p .b) bytes at₇ layers,
+      accepted-rows placementLayerLimits (p .n) (p .r) (p .s) (p .b) bytes at₇ layers,
+      eq-eqb (p .figure) (figureOf (p .s) (p .k) (p .b) (headsOf (p .layers))) formula,
+    )
 
 -- Demand 2: the check accepts exactly the files of placements within limits, with rows in order, a packing in every layer
 -- and the figure of the formula, and its result is that placement.
-pub placement-accepted-iff : (bytes : List ℕ) (p : Placement) → Bytes bytes → (checkPlacement bytes ≡ accepted p) ↔ (PlacementFile p bytes × GoodPlacement p)
+pub placement-accepted-iff : (bytes : List ℕ) (p : Placement) → Bytes bytes
+    → (checkPlacement bytes ≡ accepted p) ↔ (PlacementFile p bytes × GoodPlacement p)
 placement-accepted-iff bytes p h = (to, from)
   where
     to : checkPlacement bytes ≡ accepted p → PlacementFile p bytes × GoodPlacement p

@@ -15,7 +15,8 @@ use Rattle.placement.specs.Placement.{placementLayerLimits, checkPlaceme
 reach : (at s b r : ℕ) → at ≤ 28 → s ≤ r → r ≤ 5 → b ≤ 4_096 → at + s * 8 + b * r ≤ 20_548
 reach at s b r h₁ h₂ h₃ h₄ = let rows = mul-le-mul h₄ h₃ in omega arith
 
-within-reach : (m : ℕ) (bytes : List ℕ) → 20_548 < m → m ≤ length bytes → checkPlacement (take m bytes) ≡ checkPlacement bytes
+within-reach : (m : ℕ) (bytes : List ℕ) → 20_548 < m → m ≤ length bytes
+    → checkPlacement (take m bytes) ≡ checkPlacement bytes
 unfolding checkPlacement
 within-reach m bytes h long =
     let t = take m bytes in

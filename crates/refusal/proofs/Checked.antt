@@ -15,20 +15,24 @@ module _ {A : Type 0} where
 
 module _ {A B : Type 0} where
   -- a later check is met only with what the earlier one accepted
-  pub bind-accepted : (m : Checked A) (f : A → Checked B) {b : B} → (m >>= f) ≡ accepted b → (a : A) × (m ≡ accepted a) × (f a ≡ accepted b)
+  pub bind-accepted : (m : Checked A) (f : A → Checked B) {b : B} → (m >>= f) ≡ accepted b
+      → (a : A) × (m ≡ accepted a) × (f a ≡ accepted b)
   bind-accepted (accepted a) f e = (a, refl, e)
   bind-accepted (refused r) f e = absurd (refused-not-accepted e)
 
   -- the same, for a proof that goes on from there
-  pub bind-elim : {C : Type 0} (m : Checked A) (f : A → Checked B) {b : B} → (m >>= f) ≡ accepted b → ((a : A) → m ≡ accepted a → f a ≡ accepted b → C) → C
+  pub bind-elim : {C : Type 0} (m : Checked A) (f : A → Checked B) {b : B} → (m >>= f) ≡ accepted b
+      → ((a : A) → m ≡ accepted a → f a ≡ accepted b → C) → C
   bind-elim (accepted a) f e k = k a refl e
   bind-elim (refused r) f e k = absurd (refused-not-accepted e)
 
-  pub accepted-bind : (m : Checked A) (f : A → Checked B) {a : A} {b : B} → m ≡ accepted a → f a ≡ accepted b → (m >>= f) ≡ accepted b
+  pub accepted-bind : (m : Checked A) (f : A → Checked B) {a : A} {b : B} → m ≡ accepted a → f a ≡ accepted b
+      → (m >>= f) ≡ accepted b
   accepted-bind m f e g = rw e g
 
   -- two chains are equal where the first checks are, and what follows is on whatever was accepted
-  pub bind-congr : (m m′ : Checked A) (f g : A → Checked B) → m ≡ m′ → ((a : A) → m ≡ accepted a → f a ≡ g a) → (m >>= f) ≡ (m′ >>= g)
+  pub bind-congr : (m m′ : Checked A) (f g : A → Checked B) → m ≡ m′ → ((a : A) → m ≡ accepted a → f a ≡ g a)
+      → (m >>= f) ≡ (m′ >>= g)
   bind-congr m m′ f g e h = go m refl ∙ ap (λ x. x >>= g) e
     where
       go : (x : Checked A) → m ≡ x → (x >>= f) ≡ (x >>= g)
@@ -44,9 +48,11 @@ accepted-require b e p = rw p
 
 module _ {B : Type 0} where
   -- what follows a required test is met only where the test passed
-  pub require-bind-accepted : (t : Bool) (e : Refusal) (f : Unit → Checked B) {b : B} → (require t e >>= f) ≡ accepted b → (t ≡ true) × (f tt ≡ accepted b)
+  pub require-bind-accepted : (t : Bool) (e : Refusal) (f : Unit → Checked B) {b : B} → (require t e >>= f) ≡ accepted b
+      → (t ≡ true) × (f tt ≡ accepted b)
   require-bind-accepted true e f p = (refl, p)
   require-bind-accepted false e f p = absurd (refused-not-accepted p)
 
-  pub accepted-require-bind : (t : Bool) (e : Refusal) (f : Unit → Checked B) {b : B} → t ≡ true → f tt ≡ accepted b → (require t e >>= f) ≡ accepted b
+  pub accepted-require-bind : (t : Bool) (e : Refusal) (f : Unit → Checked B) {b : B} → t ≡ true → f tt ≡ accepted b
+      → (require t e >>= f) ≡ accepted b
   accepted-require-bind t e f p q = rw p q
