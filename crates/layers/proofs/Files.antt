@@ -12,8 +12,8 @@ use Rattle.number.specs.Numbers.{Bytes}
 use Rattle.packing.specs.Rows.{Row}
 use Rattle.layers.specs.Layers.{Layer, LayerHeads, LayerLimits, allRows, headsOf, headNumbers, Packings, File, readLayers, checkRows}
 use Rattle.layers.proofs.NumbersRead.{Reads, reads-forms, forms-reads}
-use Rattle.layers.proofs.Heads.{HeadsWithin, readLayers-accepted, accepted-readLayers}
-use Rattle.layers.proofs.RowsChecked.{checkRows-accepted, accepted-checkRows, taken-heads, taken-bytes, taken-of-bytes}
+use Rattle.layers.proofs.Heads.{HeadsWithin, reads-of-readLayers, readLayers-accepted}
+use Rattle.layers.proofs.RowsChecked.{taken-of-checkRows, checkRows-accepted, taken-heads, taken-bytes, taken-of-bytes}
 
 -- the head's numbers are read from the start, and the rows are what is left
 pub record FileRead (head : List ℕ) (layers : List Layer) (s : List ℕ) : Type 0 where
@@ -50,12 +50,12 @@ pub record LayersRead (limits : LayerLimits) (n r left room : ℕ) (s : List ℕ
 
 module _ (limits : LayerLimits) (n r left room : ℕ) (s : List ℕ) (at : ℕ) where
   -- The layers' numbers and rows are accepted exactly where they are read so.
-  pub layers-accepted : {head : LayerHeads} {layers : List Layer} → readLayers limits left room s at ≡ accepted head
+  pub read-of-layers : {head : LayerHeads} {layers : List Layer} → readLayers limits left room s at ≡ accepted head
       → checkRows n r (head .heads) s (head .next) ≡ accepted layers
       → LayersRead limits n r left room s at (head .next) layers
-  layers-accepted {head} {layers} e₁ e₂ =
-      let (reads, within) = readLayers-accepted limits left room s at e₁ in
-      let taken = checkRows-accepted n r (head .heads) s (head .next) e₂ in
+  read-of-layers {head} {layers} e₁ e₂ =
+      let (reads, within) = reads-of-readLayers limits left room s at e₁ in
+      let taken = taken-of-checkRows n r (head .heads) s (head .next) e₂ in
       let heads : headsOf layers ≡ head .heads = taken-heads n r (head .heads) s (head .next) taken in
       let ends = taken .ends in
       record {
@@ -67,12 +67,12 @@ module _ (limits : LayerLimits) (n r left room : ℕ) (s : List ℕ) (at : ℕ) 
         packings = taken .packings;
       }
 
-  pub accepted-heads : {end : ℕ} {layers : List Layer} → LayersRead limits n r left room s at end layers
+  pub heads-accepted : {end : ℕ} {layers : List Layer} → LayersRead limits n r left room s at end layers
       → readLayers limits left room s at ≡ accepted (record { heads = headsOf layers; next = end })
-  accepted-heads {end} {layers} l =
-      accepted-readLayers limits left room s at (headsOf layers) end (l .reads) (l .within)
+  heads-accepted {end} {layers} l =
+      readLayers-accepted limits left room s at (headsOf layers) end (l .reads) (l .within)
 
-  pub accepted-rows : {end : ℕ} {layers : List Layer} → LayersRead limits n r left room s at end layers
+  pub rows-accepted : {end : ℕ} {layers : List Layer} → LayersRead limits n r left room s at end layers
       → checkRows n r (headsOf layers) s end ≡ accepted layers
-  accepted-rows {end} {layers} l =
-      accepted-checkRows n r (headsOf layers) s end (taken-of-bytes n r s end layers (l .inside) (l .rest) (l .rows) (l .packings))
+  rows-accepted {end} {layers} l =
+      checkRows-accepted n r (headsOf layers) s end (taken-of-bytes n r s end layers (l .inside) (l .rest) (l .rows) (l .packings))

@@ -2,56 +2,36 @@
 use Prim.Native.Nat.{ℕ, zero, suc, _+_, _-_, _≤_}
 use native.Mathlib.Omega.{arith}
 use mathlib.Core.Path.{_≡_, refl, _∙_, ap, subst}
-use mathlib.Core.Bool.{Bool, true, false, _&&_}
+use mathlib.Core.Bool.{Bool, true, false}
 use mathlib.Core.List.{List, [], _∷_}
 use lib.ListN.{length}
-use lib.Dec.{leb, eqb, leb→le}
-use borrow.Author.Tests.{le-leb, eqb-true, eq-eqb}
+use lib.Dec.{eqb}
+use borrow.Author.Tests.{eqb-true, eq-eqb}
 use Rattle.lists.specs.Lists.{All, total}
-use Rattle.lists.proofs.Tests.{T-true, and-left, and-right}
-use Rattle.refusal.specs.declared.Refusal.the-variants.{WrongKind, OutsideLimits}
+use Rattle.refusal.specs.declared.Refusal.the-variants.{WrongKind}
 use Rattle.refusal.specs.Checked.{accepted}
 use Rattle.refusal.proofs.Checked.{accepted-injective, bind-elim, require-bind-accepted}
 use Rattle.number.specs.Numbers.{Reading, readNumber, readWithin}
+use Rattle.number.proofs.Within.{read-of-readWithin, readWithin-accepted}
 use Rattle.layers.specs.Layers.{LayerHead, LayerHeads, LayerLimits, headNumbers, sizes, leastSize, readKind, readLayers}
 use Rattle.layers.proofs.NumbersRead.{Reads}
 
--- a test of two limits
-within : (lo hi v : ℕ) → (leb lo v && leb v hi) ≡ true → (lo ≤ v) × (v ≤ hi)
-within lo hi v e =
-    (leb→le lo v (and-left (leb lo v) (leb v hi) (T-true e)), leb→le v hi (and-right (leb lo v) (leb v hi) (T-true e)))
-
--- A number of the head is accepted exactly where it is read and within its limits.
-pub readWithin-accepted : (lo hi : ℕ) (s : List ℕ) (at : ℕ) {n : Reading} → readWithin lo hi s at ≡ accepted n
-    → (readNumber s at ≡ accepted n) × ((lo ≤ n .value) × (n .value ≤ hi))
-unfolding readWithin
-readWithin-accepted lo hi s at {n} e =
-    bind-elim (readNumber s at) _ e λ number read rest.
-    let (test, same) = require-bind-accepted (leb lo (number .value) && leb (number .value) hi) (OutsideLimits at) _ rest in
-    let eq : number ≡ n = accepted-injective same in
-    rw (← eq) (read, within lo hi (number .value) test)
-
-pub accepted-readWithin : (lo hi : ℕ) (s : List ℕ) (at : ℕ) {n : Reading} → readNumber s at ≡ accepted n → lo ≤ n .value
-    → n .value ≤ hi → readWithin lo hi s at ≡ accepted n
-unfolding readWithin
-accepted-readWithin lo hi s at {n} e l h = rw (e, le-leb lo (n .value) l, le-leb (n .value) hi h)
-
 -- The first number is accepted exactly where it is read and is the file's kind.
-pub readKind-accepted : (kind : ℕ) (s : List ℕ) {n : Reading} → readKind kind s ≡ accepted n
+pub read-of-readKind : (kind : ℕ) (s : List ℕ) {n : Reading} → readKind kind s ≡ accepted n
     → readNumber s 0 ≡ accepted (record { value = kind; next = n .next })
 unfolding readKind
-readKind-accepted kind s {n} e =
+read-of-readKind kind s {n} e =
     bind-elim (readNumber s 0) _ e λ first read rest.
     let (test, same) = require-bind-accepted (eqb (first .value) kind) WrongKind _ rest in
     let is : first .value ≡ kind = eqb-true (first .value) kind test in
     let eq : first ≡ n = accepted-injective same in
     read ∙ (λ i. accepted (record { value = is i; next = (eq i) .next }))
 
-pub accepted-readKind : (kind : ℕ) (s : List ℕ) {next : ℕ}
+pub readKind-accepted : (kind : ℕ) (s : List ℕ) {next : ℕ}
     → readNumber s 0 ≡ accepted (record { value = kind; next = next })
     → readKind kind s ≡ accepted (record { value = kind; next = next })
 unfolding readKind
-accepted-readKind kind s e = rw (e, eq-eqb kind kind refl)
+readKind-accepted kind s e = rw (e, eq-eqb kind kind refl)
 
 -- the sizes of `left` layers sum to at most `room` or, where they must fill it, to it
 abbrev pub SizesFit : (full : Bool) (left room sum : ℕ) → Type 0
@@ -138,43 +118,43 @@ within-rest limits left room head heads w =
 
 -- "for each x .. the numbers mu .. and m", "lambda .. and c": they are accepted exactly where they are read and within
 -- their limits
-pub readLayers-accepted : (limits : LayerLimits) (left room : ℕ) (s : List ℕ) (at : ℕ) {h : LayerHeads}
+pub reads-of-readLayers : (limits : LayerLimits) (left room : ℕ) (s : List ℕ) (at : ℕ) {h : LayerHeads}
     → readLayers limits left room s at ≡ accepted h
     → Reads (headNumbers (h .heads)) s at (h .next) × HeadsWithin limits left room (h .heads)
 unfolding readLayers headNumbers total
-readLayers-accepted limits zero room s at e =
+reads-of-readLayers limits zero room s at e =
     subst
     (λ h. Reads (headNumbers (h .heads)) s at (h .next) × HeadsWithin limits zero room (h .heads))
     (accepted-injective e)
     (refl, record { layer-each = refl; bounds = tt; fit = fit-nil (limits .full) room })
-readLayers-accepted limits (suc left) room s at e =
+reads-of-readLayers limits (suc left) room s at e =
     bind-elim (readWithin (limits .lo) (limits .hi) s at) _ e λ bound e₁ r₁.
     bind-elim (readWithin (leastSize (limits .full) left room) room s (bound .next)) _ r₁ λ size e₂ r₂.
     bind-elim (readLayers limits left (room - size .value) s (size .next)) _ r₂ λ rest e₃ r₃.
-    let (read₁, within₁) = readWithin-accepted (limits .lo) (limits .hi) s at e₁ in
-    let (read₂, within₂) = readWithin-accepted (leastSize (limits .full) left room) room s (bound .next) e₂ in
-    let (reads, heads) = readLayers-accepted limits left (room - size .value) s (size .next) e₃ in
+    let (read₁, lo₁, hi₁) = read-of-readWithin (limits .lo) (limits .hi) s at e₁ in
+    let (read₂, lo₂, hi₂) = read-of-readWithin (leastSize (limits .full) left room) room s (bound .next) e₂ in
+    let (reads, heads) = reads-of-readLayers limits left (room - size .value) s (size .next) e₃ in
     let head : LayerHead = record { bound = bound .value; size = size .value } in
     subst
     (λ h. Reads (headNumbers (h .heads)) s at (h .next) × HeadsWithin limits (suc left) room (h .heads))
     (accepted-injective r₃) (
       (bound .next, read₁, (size .next, read₂, reads)),
-      within-cons limits left room head (rest .heads) within₁ (within₂ .0) (within₂ .1) heads,
+      within-cons limits left room head (rest .heads) (lo₁, hi₁) lo₂ hi₂ heads,
     )
 
-pub accepted-readLayers : (limits : LayerLimits) (left room : ℕ) (s : List ℕ) (at : ℕ) (heads : List LayerHead) (next : ℕ)
+pub readLayers-accepted : (limits : LayerLimits) (left room : ℕ) (s : List ℕ) (at : ℕ) (heads : List LayerHead) (next : ℕ)
     → Reads (headNumbers heads) s at next
     → HeadsWithin limits left room heads
     → readLayers limits left room s at ≡ accepted (record { heads = heads; next = next })
 unfolding readLayers headNumbers total
-accepted-readLayers limits zero room s at [] next reads w = rw reads
-accepted-readLayers limits zero room s at (head ∷ heads) next reads w = let e = w .layer-each in absurd (omega arith)
-accepted-readLayers limits (suc left) room s at [] next reads w = let e = w .layer-each in absurd (omega arith)
-accepted-readLayers limits (suc left) room s at (head ∷ heads) next (p, read₁, (q, read₂, reads)) w =
+readLayers-accepted limits zero room s at [] next reads w = rw reads
+readLayers-accepted limits zero room s at (head ∷ heads) next reads w = let e = w .layer-each in absurd (omega arith)
+readLayers-accepted limits (suc left) room s at [] next reads w = let e = w .layer-each in absurd (omega arith)
+readLayers-accepted limits (suc left) room s at (head ∷ heads) next (p, read₁, (q, read₂, reads)) w =
     let least = least-within limits left room head heads w in
     let most = le-of-fit (limits .full) left room (head .size) (sizes heads) (w .fit) in
     rw (
-      accepted-readWithin (limits .lo) (limits .hi) s at read₁ (w .bounds .0 .0) (w .bounds .0 .1),
-      accepted-readWithin (leastSize (limits .full) left room) room s p read₂ least most,
-      accepted-readLayers limits left (room - head .size) s q heads next reads (within-rest limits left room head heads w),
+      readWithin-accepted (limits .lo) (limits .hi) s at read₁ (w .bounds .0 .0) (w .bounds .0 .1),
+      readWithin-accepted (leastSize (limits .full) left room) room s p read₂ least most,
+      readLayers-accepted limits left (room - head .size) s q heads next reads (within-rest limits left room head heads w),
     )

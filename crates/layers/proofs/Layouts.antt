@@ -2,16 +2,16 @@
 use Prim.Native.Nat.{ℕ, zero, suc, _+_, _*_, _≤_}
 use native.Mathlib.Omega.{arith}
 use native.Mathlib.Nat.{zero-mul}
-use mathlib.Core.Path.{_≡_, refl, _∙_, ap}
+use mathlib.Core.Path.{_≡_, refl, ap}
 use mathlib.Core.List.{List, [], _∷_, _++_, flatten, append-assoc}
-use lib.ListN.{length, take, drop, length-append, length-drop}
+use lib.ListN.{length, take, drop, length-drop}
 use lib.Seq.{take-add, take-at, drop-at, length-take-le}
 use Rattle.lists.specs.Lists.{All, total}
 use Rattle.lists.proofs.Alls.{all-append, all-append-left, all-append-right}
 use Rattle.lists.proofs.Counts.{flatten-append}
 use Rattle.packing.specs.Rows.{rowsAt}
 use Rattle.layers.specs.Layers.{Layer, LayerHead, size, sizes, allRows, headsOf, layersAt}
-use Rattle.layers.proofs.Lists.{length-flatten}
+use Rattle.layers.proofs.Lengths.{length-flatten-rows}
 
 pub length-rowsAt : (r c : ℕ) (s : List ℕ) → length (rowsAt r c s) ≡ c
 unfolding rowsAt
@@ -42,13 +42,6 @@ rowsAt-flatten r (row ∷ rows) t h =
       drop-at row (flatten rows ++ t) r (h .0),
       rowsAt-flatten r rows t (h .1),
     )
-
--- layers have as many rows as their numbers in the head say
-pub length-allRows : (layers : List Layer) → length (allRows layers) ≡ sizes (headsOf layers)
-unfolding flatten total
-length-allRows [] = refl
-length-allRows (layer ∷ layers) =
-    length-append (layer .rows) (allRows layers) ∙ ap (λ n. size layer + n) (length-allRows layers)
 
 pub headsOf-layersAt : (r : ℕ) (heads : List LayerHead) (s : List ℕ) → headsOf (layersAt r heads s) ≡ heads
 unfolding layersAt
@@ -98,6 +91,6 @@ layersAt-flatten r (layer ∷ layers) t h =
       flatten-append (layer .rows) (allRows layers),
       append-assoc (flatten (layer .rows)) (flatten (allRows layers)) t,
       rowsAt-flatten r (layer .rows) after first,
-      drop-at (flatten (layer .rows)) after (size layer * r) (length-flatten r (layer .rows) first),
+      drop-at (flatten (layer .rows)) after (size layer * r) (length-flatten-rows r (layer .rows) first),
       layersAt-flatten r layers t rest,
     )

@@ -1,10 +1,10 @@
 -- General laws of lists that the laws of layers use. Assumes nothing.
-use Prim.Native.Nat.{ℕ, _+_, _-_, _*_, _≤_}
+use Prim.Native.Nat.{ℕ, _+_, _-_, _≤_}
 use native.Mathlib.Omega.{arith}
 use mathlib.Core.Path.{_≡_, refl, _∙_, ap}
 use mathlib.Core.Bool.{Bool, true, false}
-use mathlib.Core.List.{List, [], _∷_, _++_, map, flatten}
-use lib.ListN.{length, take, drop, length-append}
+use mathlib.Core.List.{List, [], _∷_, _++_, map}
+use lib.ListN.{length, take, drop}
 use lib.Dec.{leb}
 use borrow.Author.Tests.{leb-true, leb-false}
 use lib.Seq.{slice, take-add, take-all, drop-append-le, drop-at, length-take-le}
@@ -30,15 +30,6 @@ module _ {A : Type 0} where
   pub all-of-map : {B : Type 0} (P : A → Type 0) (g : B → A) (l : List B) → All P (map g l) → All (λ b. P (g b)) l
   all-of-map P g [] h = tt
   all-of-map P g (b ∷ l) h = (h .0, all-of-map P g l (h .1))
-
-  -- lists of one length
-  pub length-flatten : (r : ℕ) (ls : List (List A)) → All (λ l. length l ≡ r) ls → length (flatten ls) ≡ length ls * r
-  unfolding flatten
-  length-flatten r [] h = omega arith
-  length-flatten r (l ∷ ls) h =
-      let first = h .0 in
-      let rest = length-flatten r ls (h .1) in
-      omega (arith, length-append l (flatten ls))
 
   -- what looks only at a list's first m elements is shown for lists that have m
   pub take-elim : {B : Type 0} (f : List A → B) (m : ℕ) (l : List A) → (m ≤ length l → f (take m l) ≡ f l)

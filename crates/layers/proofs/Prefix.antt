@@ -12,22 +12,23 @@ use Rattle.refusal.specs.Checked.{accepted}
 use Rattle.refusal.proofs.Checked.{bind-congr}
 use Rattle.number.specs.Numbers.{Reading, readWithin}
 use Rattle.number.proofs.Reading.{read-next, read-local}
+use Rattle.number.proofs.Within.{read-of-readWithin}
 use Rattle.layers.specs.Layers.{LayerHead, LayerHeads, LayerLimits, headNumbers, sizes, leastSize, readKind, readLayers, checkRows}
 use Rattle.layers.proofs.NumbersRead.{reads-next}
-use Rattle.layers.proofs.Heads.{fit-le, readWithin-accepted, readKind-accepted, readLayers-accepted}
+use Rattle.layers.proofs.Heads.{fit-le, read-of-readKind, reads-of-readLayers}
 
 -- the place after a number that was accepted
 pub readKind-next : (kind : ℕ) (s : List ℕ) {n : Reading} → readKind kind s ≡ accepted n → n .next ≤ 4
-readKind-next kind s e = omega (arith, read-next s 0 (readKind-accepted kind s e))
+readKind-next kind s e = omega (arith, read-next s 0 (read-of-readKind kind s e))
 
 pub readWithin-next : (lo hi : ℕ) (s : List ℕ) (at : ℕ) {n : Reading} → readWithin lo hi s at ≡ accepted n
     → n .next ≤ at + 4
-readWithin-next lo hi s at e = read-next s at (readWithin-accepted lo hi s at e .0) .0
+readWithin-next lo hi s at e = read-next s at (read-of-readWithin lo hi s at e .0) .0
 
-length-headNumbers : (heads : List LayerHead) → length (headNumbers heads) ≡ length heads * 2
+headNumbers-two : (heads : List LayerHead) → length (headNumbers heads) ≡ length heads * 2
 unfolding headNumbers
-length-headNumbers [] = refl
-length-headNumbers (head ∷ heads) = let rest = length-headNumbers heads in omega arith
+headNumbers-two [] = refl
+headNumbers-two (head ∷ heads) = let rest = headNumbers-two heads in omega arith
 
 module _ (m : ℕ) (s : List ℕ) (long : m ≤ length s) where
   -- A number that starts four bytes or more before m is read from the first m bytes.
@@ -69,10 +70,10 @@ pub rows-end : (limits : LayerLimits) (left room r : ℕ) (s : List ℕ) (at : �
     → readLayers limits left room s at ≡ accepted head
     → head .next + sizes (head .heads) * r ≤ at + left * 8 + room * r
 rows-end limits left room r s at {head} e =
-    let (reads, within) = readLayers-accepted limits left room s at e in
+    let (reads, within) = reads-of-readLayers limits left room s at e in
     let each = within .layer-each in
     let next = reads-next (headNumbers (head .heads)) s at (head .next) reads in
-    let numbers = length-headNumbers (head .heads) in
+    let numbers = headNumbers-two (head .heads) in
     let rows = mul-le-mul-right r (fit-le (limits .full) left room (sizes (head .heads)) (within .fit)) in
     omega arith
 

@@ -17,8 +17,9 @@ use Rattle.refusal.proofs.Checked.{accepted-injective, refused-not-accepted, re
 use Rattle.packing.specs.Rows.{Row, inOrder, firstBad}
 use Rattle.packing.proofs.Test.{good-iff-in-order}
 use Rattle.layers.specs.Layers.{Layer, LayerHead, Packings, sizes, allRows, headsOf, layersAt, firstCrowdedOf, refuseRow, checkRows}
-use Rattle.layers.proofs.Lists.{all-both, length-flatten}
-use Rattle.layers.proofs.Layouts.{length-allRows, headsOf-layersAt, flatten-layersAt, layersAt-lengths, layersAt-flatten}
+use Rattle.layers.proofs.Lists.{all-both}
+use Rattle.layers.proofs.Lengths.{length-flatten-rows, length-allRows}
+use Rattle.layers.proofs.Layouts.{headsOf-layersAt, flatten-layersAt, layersAt-lengths, layersAt-flatten}
 use Rattle.layers.proofs.Packings.{packings-iff-uncrowded}
 
 -- no row is refused exactly where none was found
@@ -35,10 +36,10 @@ pub record RowsTaken (n r : ℕ) (heads : List LayerHead) (s : List ℕ) (at : �
   pub packings : Packings 0 layers
 
 -- "Then 1 or 5 for the rows' total length, then 6 over all rows, then 7": none of these exactly where the rows are so
-pub checkRows-accepted : (n r : ℕ) (heads : List LayerHead) (s : List ℕ) (at : ℕ) {layers : List Layer}
+pub taken-of-checkRows : (n r : ℕ) (heads : List LayerHead) (s : List ℕ) (at : ℕ) {layers : List Layer}
     → checkRows n r heads s at ≡ accepted layers → RowsTaken n r heads s at layers
 unfolding checkRows
-checkRows-accepted n r heads s at e =
+taken-of-checkRows n r heads s at e =
     let layers = layersAt r heads (drop at s) in
     let end = at + sizes heads * r in
     let (t₁, e₁) = require-bind-accepted (leb end (length s)) (Ended (length s)) _ e in
@@ -60,10 +61,10 @@ checkRows-accepted n r heads s at e =
       packings = packings-iff-uncrowded n r 0 layers rows .0 t₄;
     })
 
-pub accepted-checkRows : (n r : ℕ) (heads : List LayerHead) (s : List ℕ) (at : ℕ) {layers : List Layer}
+pub checkRows-accepted : (n r : ℕ) (heads : List LayerHead) (s : List ℕ) (at : ℕ) {layers : List Layer}
     → RowsTaken n r heads s at layers → checkRows n r heads s at ≡ accepted layers
 unfolding checkRows
-accepted-checkRows n r heads s at {layers} h =
+checkRows-accepted n r heads s at {layers} h =
     let e = h .ends in
     let ordered = all-imp (Row n r) (λ row. T (inOrder n row)) (λ row g. g .1) (allRows layers) (h .rows) in
     rw (
@@ -92,7 +93,7 @@ pub taken-of-bytes : (n r : ℕ) (s : List ℕ) (at : ℕ) (layers : List Layer)
     → RowsTaken n r (headsOf layers) s at layers
 taken-of-bytes n r s at layers inside bytes rows packings =
     let lengths = all-imp (Row n r) (λ row. length row ≡ r) (λ row g. g .0) (allRows layers) rows in
-    let len = length-flatten r (allRows layers) lengths ∙ ap (λ c. c * r) (length-allRows layers) in
+    let len = length-flatten-rows r (allRows layers) lengths ∙ ap (λ c. c * r) (length-allRows layers) in
     record {
       ends = let d = ap length bytes in omega (arith, length-drop at s);
       taken = rw (bytes, ← append-nil (flatten (allRows layers))) (layersAt-flatten r layers [] lengths);

@@ -9,10 +9,11 @@ use Rattle.lists.proofs.Alls.{all-map}
 use Rattle.refusal.specs.Checked.{accepted}
 use Rattle.refusal.proofs.Checked.{accepted-injective, bind-elim}
 use Rattle.number.specs.Numbers.{Bytes, Reading, readWithin}
+use Rattle.number.proofs.Within.{read-of-readWithin, readWithin-accepted}
 use Rattle.layers.specs.Layers.{Layer, headsOf, readKind, readLayers, checkRows}
 use Rattle.layers.proofs.Lists.{all-of-map}
-use Rattle.layers.proofs.Heads.{HeadsWithin, readWithin-accepted, accepted-readWithin, readKind-accepted, accepted-readKind}
-use Rattle.layers.proofs.Files.{FileRead, LayersRead, file-read, read-file, layers-accepted, accepted-heads, accepted-rows}
+use Rattle.layers.proofs.Heads.{HeadsWithin, read-of-readKind, readKind-accepted}
+use Rattle.layers.proofs.Files.{FileRead, LayersRead, file-read, read-file, read-of-layers, heads-accepted, rows-accepted}
 use Rattle.pack.specs.Pack.{Pack, PackFile, PackLimits, GoodPack, packNumbers, packLayerLimits, checkPack}
 
 -- a pack's layers within their limits, in the terms of the head
@@ -50,38 +51,38 @@ pack-of-parts : (s : List ℕ) (kind n r : Reading) (end : ℕ) (layers : List L
     → LayersRead packLayerLimits (n .value) (r .value) (r .value) 4_096 s (r .next) end layers
     → FileRead (packNumbers (packOf n r layers)) layers s × GoodPack (packOf n r layers)
 pack-of-parts s kind n r end layers e₁ e₂ e₃ l =
-    let (read₂, within₂) = readWithin-accepted 2 255 s (kind .next) e₂ in
-    let (read₃, within₃) = readWithin-accepted 2 (min 5 (n .value)) s (n .next) e₃ in (
+    let (read₂, lo₂, hi₂) = read-of-readWithin 2 255 s (kind .next) e₂ in
+    let (read₃, lo₃, hi₃) = read-of-readWithin 2 (min 5 (n .value)) s (n .next) e₃ in (
       record {
         end = end;
-        reads = (kind .next, readKind-accepted 1 s e₁, (n .next, read₂, (r .next, read₃, l .reads)));
+        reads = (kind .next, read-of-readKind 1 s e₁, (n .next, read₂, (r .next, read₃, l .reads)));
         inside = l .inside;
         rest = l .rest;
       },
       record {
-        limits = pack-limits (n .value) (r .value) layers within₂ within₃ (l .within);
+        limits = pack-limits (n .value) (r .value) layers (lo₂, hi₂) (lo₃, hi₃) (l .within);
         rows = l .rows;
         packings = l .packings;
       },
     )
 
-pack-accepted : (s : List ℕ) (p : Pack) → checkPack s ≡ accepted p → FileRead (packNumbers p) (p .layers) s × GoodPack p
+read-of-pack : (s : List ℕ) (p : Pack) → checkPack s ≡ accepted p → FileRead (packNumbers p) (p .layers) s × GoodPack p
 unfolding checkPack
-pack-accepted s p e =
+read-of-pack s p e =
     bind-elim (readKind 1 s) _ e λ kind e₁ r₁.
     bind-elim (readWithin 2 255 s (kind .next)) _ r₁ λ n e₂ r₂.
     bind-elim (readWithin 2 (min 5 (n .value)) s (n .next)) _ r₂ λ r e₃ r₃.
     bind-elim (readLayers packLayerLimits (r .value) 4_096 s (r .next)) _ r₃ λ head e₄ r₄.
     bind-elim (checkRows (n .value) (r .value) (head .heads) s (head .next)) _ r₄ λ layers e₅ r₅.
-    let l = layers-accepted packLayerLimits (n .value) (r .value) (r .value) 4_096 s (r .next) e₄ e₅ in
+    let l = read-of-layers packLayerLimits (n .value) (r .value) (r .value) 4_096 s (r .next) e₄ e₅ in
     subst
     (λ p. FileRead (packNumbers p) (p .layers) s × GoodPack p)
     (accepted-injective r₅)
     (pack-of-parts s kind n r (head .next) layers e₁ e₂ e₃ l)
 
-accepted-pack : (s : List ℕ) (p : Pack) → FileRead (packNumbers p) (p .layers) s → GoodPack p → checkPack s ≡ accepted p
+pack-accepted : (s : List ℕ) (p : Pack) → FileRead (packNumbers p) (p .layers) s → GoodPack p → checkPack s ≡ accepted p
 unfolding checkPack
-accepted-pack s p f g =
+pack-accepted s p f g =
     let (at₁, read₁, (at₂, read₂, (at₃, read₃, reads))) = f .reads in
     let l = g .limits in
     let layers : LayersRead packLayerLimits (p .n) (p .r) (p .r) 4_096 s at₃ (f .end) (p .layers) = record {
@@ -93,11 +94,11 @@ accepted-pack s p f g =
       packings = g .packings;
     } in
     rw (
-      accepted-readKind 1 s read₁,
-      accepted-readWithin 2 255 s at₁ read₂ (l .n-least) (l .n-most),
-      accepted-readWithin 2 (min 5 (p .n)) s at₂ read₃ (l .r-least) (omega arith),
-      accepted-heads packLayerLimits (p .n) (p .r) (p .r) 4_096 s at₃ layers,
-      accepted-rows packLayerLimits (p .n) (p .r) (p .r) 4_096 s at₃ layers,
+      readKind-accepted 1 s read₁,
+      readWithin-accepted 2 255 s at₁ read₂ (l .n-least) (l .n-most),
+      readWithin-accepted 2 (min 5 (p .n)) s at₂ read₃ (l .r-least) (omega arith),
+      heads-accepted packLayerLimits (p .n) (p .r) (p .r) 4_096 s at₃ layers,
+      rows-accepted packLayerLimits (p .n) (p .r) (p .r) 4_096 s at₃ layers,
     )
 
 -- Demand 2: the check accepts exactly the files of packs within limits, with rows in order and a packing in every layer,
@@ -106,7 +107,7 @@ pub pack-accepted-iff : (s : List ℕ) (p : Pack) → Bytes s → (checkPack s �
 pack-accepted-iff s p b = (to, from)
   where
     to : checkPack s ≡ accepted p → PackFile p s × GoodPack p
-    to e = let (f, g) = pack-accepted s p e in (read-file (packNumbers p) (p .layers) s b f, g)
+    to e = let (f, g) = read-of-pack s p e in (read-file (packNumbers p) (p .layers) s b f, g)
 
     from : PackFile p s × GoodPack p → checkPack s ≡ accepted p
-    from h = accepted-pack s p (file-read (packNumbers p) (p .layers) s (h .0)) (h .1)
+    from h = pack-accepted s p (file-read (packNumbers p) (p .layers) s (h .0)) (h .1)

@@ -5,8 +5,8 @@ use mathlib.Core.Path.{_≡_, refl}
 use mathlib.Core.List.{List}
 use lib.ListN.{length, take}
 use Rattle.refusal.proofs.Checked.{bind-congr}
+use Rattle.number.proofs.Within.{read-of-readWithin}
 use Rattle.layers.proofs.Lists.{take-elim}
-use Rattle.layers.proofs.Heads.{readWithin-accepted}
 use Rattle.layers.proofs.Prefix.{readKind-next, readWithin-next, readKind-take, readWithin-take, readLayers-take, layers-take}
 use Rattle.pack.specs.Pack.{packLayerLimits, checkPack}
 
@@ -20,7 +20,7 @@ within-reach m s h long =
     let at₂ = readWithin-next 2 255 (take m s) (kind .next) e₂ in
     bind-congr _ _ _ _ (readWithin-take m s long 2 (min 5 (n .value)) (n .next) (omega arith)) λ r e₃.
     let at₃ = readWithin-next 2 (min 5 (n .value)) (take m s) (n .next) e₃ in
-    let r-within = readWithin-accepted 2 (min 5 (n .value)) (take m s) (n .next) e₃ .1 in
+    let r-within = read-of-readWithin 2 (min 5 (n .value)) (take m s) (n .next) e₃ in
     bind-congr _ _ _ _ (readLayers-take m s long packLayerLimits (r .value) 4_096 (r .next) (omega arith)) λ head e₄.
     bind-congr _ _ _ _ (layers-take packLayerLimits (n .value) (r .value) (r .value) 4_096 s (r .next) m long e₄ (omega arith)) λ layers e₅.
     refl

@@ -13,10 +13,11 @@ use Rattle.refusal.specs.declared.Refusal.the-variants.{WrongFigure}
 use Rattle.refusal.specs.Checked.{accepted}
 use Rattle.refusal.proofs.Checked.{accepted-injective, bind-elim, require-bind-accepted}
 use Rattle.number.specs.Numbers.{Bytes, Reading, readWithin}
+use Rattle.number.proofs.Within.{read-of-readWithin, readWithin-accepted}
 use Rattle.layers.specs.Layers.{Layer, LayerHead, sizes, headsOf, readKind, readLayers, checkRows}
 use Rattle.layers.proofs.Lists.{all-of-map}
-use Rattle.layers.proofs.Heads.{SizesFit, HeadsWithin, readWithin-accepted, accepted-readWithin, readKind-accepted, accepted-readKind}
-use Rattle.layers.proofs.Files.{FileRead, LayersRead, file-read, read-file, layers-accepted, accepted-heads, accepted-rows}
+use Rattle.layers.proofs.Heads.{SizesFit, HeadsWithin, read-of-readKind, readKind-accepted}
+use Rattle.layers.proofs.Files.{FileRead, LayersRead, file-read, read-file, read-of-layers, heads-accepted, rows-accepted}
 use Rattle.placement.specs.Figure.{figureOf}
 use Rattle.placement.specs.Placement.{Placement, PlacementFile, PlacementLimits, GoodPlacement, placementNumbers, placementLayerLimits, checkPlacement}
 
@@ -74,42 +75,42 @@ module _ (bytes : List ℕ) (kind n r s k b figure : Reading) (a : HeadAccepted 
   limits-of-parts : HeadsWithin placementLayerLimits (s .value) (b .value) (headsOf layers)
       → PlacementLimits (placementOf n r s k b figure layers)
   limits-of-parts w =
-      let n-within = readWithin-accepted 2 255 bytes (kind .next) (a .n-read) .1 in
-      let r-within = readWithin-accepted 2 (min 5 (n .value)) bytes (n .next) (a .r-read) .1 in
-      let s-within = readWithin-accepted 1 (r .value) bytes (r .next) (a .s-read) .1 in
-      let k-within = readWithin-accepted (s .value) (n .value - 1) bytes (s .next) (a .k-read) .1 in
-      let b-within = readWithin-accepted 1 4_096 bytes (k .next) (a .b-read) .1 in
+      let n-within = read-of-readWithin 2 255 bytes (kind .next) (a .n-read) in
+      let r-within = read-of-readWithin 2 (min 5 (n .value)) bytes (n .next) (a .r-read) in
+      let s-within = read-of-readWithin 1 (r .value) bytes (r .next) (a .s-read) in
+      let k-within = read-of-readWithin (s .value) (n .value - 1) bytes (s .next) (a .k-read) in
+      let b-within = read-of-readWithin 1 4_096 bytes (k .next) (a .b-read) in
       record {
-        n-least = n-within .0;
-        n-most = n-within .1;
-        r-least = r-within .0;
+        n-least = n-within .1;
+        n-most = n-within .2;
+        r-least = r-within .1;
         r-most = omega arith;
         r-nodes = omega arith;
-        s-least = s-within .0;
-        s-most = s-within .1;
-        k-least = k-within .0;
+        s-least = s-within .1;
+        s-most = s-within .2;
+        k-least = k-within .1;
         k-most = omega arith;
-        b-least = b-within .0;
-        b-most = b-within .1;
+        b-least = b-within .1;
+        b-most = b-within .2;
         layer-each = sym (length-map layers _) ∙ w .layer-each;
         lambda-most = all-imp _ (λ layer. layer .bound ≤ 16_777_216) (λ layer h. h .1) layers (all-of-map _ _ layers (w .bounds));
-        records-all = fit-full (s .value) (b .value) (sizes (headsOf layers)) (s-within .0) (w .fit);
+        records-all = fit-full (s .value) (b .value) (sizes (headsOf layers)) (s-within .1) (w .fit);
       }
 
   file-of-parts : LayersRead placementLayerLimits (n .value) (r .value) (s .value) (b .value) bytes (figure .next) end layers
       → FileRead (placementNumbers (placementOf n r s k b figure layers)) layers bytes
   file-of-parts l =
-      let n-read = readWithin-accepted 2 255 bytes (kind .next) (a .n-read) .0 in
-      let r-read = readWithin-accepted 2 (min 5 (n .value)) bytes (n .next) (a .r-read) .0 in
-      let s-read = readWithin-accepted 1 (r .value) bytes (r .next) (a .s-read) .0 in
-      let k-read = readWithin-accepted (s .value) (n .value - 1) bytes (s .next) (a .k-read) .0 in
-      let b-read = readWithin-accepted 1 4_096 bytes (k .next) (a .b-read) .0 in
-      let figure-read = readWithin-accepted 0 (b .value) bytes (b .next) (a .figure-read) .0 in
+      let n-read = read-of-readWithin 2 255 bytes (kind .next) (a .n-read) .0 in
+      let r-read = read-of-readWithin 2 (min 5 (n .value)) bytes (n .next) (a .r-read) .0 in
+      let s-read = read-of-readWithin 1 (r .value) bytes (r .next) (a .s-read) .0 in
+      let k-read = read-of-readWithin (s .value) (n .value - 1) bytes (s .next) (a .k-read) .0 in
+      let b-read = read-of-readWithin 1 4_096 bytes (k .next) (a .b-read) .0 in
+      let figure-read = read-of-readWithin 0 (b .value) bytes (b .next) (a .figure-read) .0 in
       record {
         end = end;
         reads = (
           kind .next,
-          readKind-accepted 2 bytes (a .kind-read),
+          read-of-readKind 2 bytes (a .kind-read),
           (
             n .next,
             n-read,
@@ -128,10 +129,10 @@ module _ (bytes : List ℕ) (kind n r s k b figure : Reading) (a : HeadAccepted 
         rest = l .rest;
       }
 
-placement-accepted : (bytes : List ℕ) (p : Placement) → checkPlacement bytes ≡ accepted p
+read-of-placement : (bytes : List ℕ) (p : Placement) → checkPlacement bytes ≡ accepted p
     → FileRead (placementNumbers p) (p .layers) bytes × GoodPlacement p
 unfolding checkPlacement
-placement-accepted bytes p e =
+read-of-placement bytes p e =
     bind-elim (readKind 2 bytes) _ e λ kind e₁ r₁.
     bind-elim (readWithin 2 255 bytes (kind .next)) _ r₁ λ n e₂ r₂.
     bind-elim (readWithin 2 (min 5 (n .value)) bytes (n .next)) _ r₂ λ r e₃ r₃.
@@ -153,7 +154,7 @@ placement-accepted bytes p e =
       b-read = e₆;
       figure-read = e₇;
     } in
-    let l = layers-accepted placementLayerLimits (n .value) (r .value) (s .value) (b .value) bytes (figure .next) e₈ e₉ in
+    let l = read-of-layers placementLayerLimits (n .value) (r .value) (s .value) (b .value) bytes (figure .next) e₈ e₉ in
     subst
     (λ p. FileRead (placementNumbers p) (p .layers) bytes × GoodPlacement p)
     (accepted-injective same) (
@@ -166,10 +167,10 @@ placement-accepted bytes p e =
       },
     )
 
-accepted-placement : (bytes : List ℕ) (p : Placement) → FileRead (placementNumbers p) (p .layers) bytes
+placement-accepted : (bytes : List ℕ) (p : Placement) → FileRead (placementNumbers p) (p .layers) bytes
     → GoodPlacement p → checkPlacement bytes ≡ accepted p
 unfolding checkPlacement
-accepted-placement bytes p f g =
+placement-accepted bytes p f g =
     let (at₁, read₁, (at₂, read₂, (at₃, read₃, (at₄, read₄, (at₅, read₅, (at₆, read₆, (at₇, read₇, reads))))))) = f .reads in
     let l = g .limits in
     let formula = g .formula in
@@ -183,15 +184,15 @@ accepted-placement bytes p f g =
       packings = g .packings;
     } in
     rw (
-      accepted-readKind 2 bytes read₁,
-      accepted-readWithin 2 255 bytes at₁ read₂ (l .n-least) (l .n-most),
-      accepted-readWithin 2 (min 5 (p .n)) bytes at₂ read₃ (l .r-least) (omega arith),
-      accepted-readWithin 1 (p .r) bytes at₃ read₄ (l .s-least) (l .s-most),
-      accepted-readWithin (p .s) (p .n - 1) bytes at₄ read₅ (l .k-least) (omega arith),
-      accepted-readWithin 1 4_096 bytes at₅ read₆ (l .b-least) (l .b-most),
-      accepted-readWithin 0 (p .b) bytes at₆ read₇ (omega arith) (omega arith),
-      accepted-heads placementLayerLimits (p .n) (p .r) (p .s) (p .b) bytes at₇ layers,
-      accepted-rows placementLayerLimits (p .n) (p .r) (p .s) (p .b) bytes at₇ layers,
+      readKind-accepted 2 bytes read₁,
+      readWithin-accepted 2 255 bytes at₁ read₂ (l .n-least) (l .n-most),
+      readWithin-accepted 2 (min 5 (p .n)) bytes at₂ read₃ (l .r-least) (omega arith),
+      readWithin-accepted 1 (p .r) bytes at₃ read₄ (l .s-least) (l .s-most),
+      readWithin-accepted (p .s) (p .n - 1) bytes at₄ read₅ (l .k-least) (omega arith),
+      readWithin-accepted 1 4_096 bytes at₅ read₆ (l .b-least) (l .b-most),
+      readWithin-accepted 0 (p .b) bytes at₆ read₇ (omega arith) (omega arith),
+      heads-accepted placementLayerLimits (p .n) (p .r) (p .s) (p .b) bytes at₇ layers,
+      rows-accepted placementLayerLimits (p .n) (p .r) (p .s) (p .b) bytes at₇ layers,
       eq-eqb (p .figure) (figureOf (p .s) (p .k) (p .b) (headsOf (p .layers))) formula,
     )
 
@@ -203,8 +204,8 @@ placement-accepted-iff bytes p h = (to, from)
   where
     to : checkPlacement bytes ≡ accepted p → PlacementFile p bytes × GoodPlacement p
     to e =
-        let (f, g) = placement-accepted bytes p e in
+        let (f, g) = read-of-placement bytes p e in
         (read-file (placementNumbers p) (p .layers) bytes h f, g)
 
     from : PlacementFile p bytes × GoodPlacement p → checkPlacement bytes ≡ accepted p
-    from g = accepted-placement bytes p (file-read (placementNumbers p) (p .layers) bytes (g .0)) (g .1)
+    from g = placement-accepted bytes p (file-read (placementNumbers p) (p .layers) bytes (g .0)) (g .1)

@@ -6,8 +6,8 @@ use mathlib.Core.Path.{_≡_, refl}
 use mathlib.Core.List.{List}
 use lib.ListN.{length, take}
 use Rattle.refusal.proofs.Checked.{bind-congr}
+use Rattle.number.proofs.Within.{read-of-readWithin}
 use Rattle.layers.proofs.Lists.{take-elim}
-use Rattle.layers.proofs.Heads.{readWithin-accepted}
 use Rattle.layers.proofs.Prefix.{readKind-next, readWithin-next, readKind-take, readWithin-take, readLayers-take, layers-take}
 use Rattle.placement.specs.Placement.{placementLayerLimits, checkPlacement}
 
@@ -26,15 +26,15 @@ within-reach m bytes h long =
     let at₂ = readWithin-next 2 255 t (kind .next) e₂ in
     bind-congr _ _ _ _ (readWithin-take m bytes long 2 (min 5 (n .value)) (n .next) (omega arith)) λ r e₃.
     let at₃ = readWithin-next 2 (min 5 (n .value)) t (n .next) e₃ in
-    let r-within = readWithin-accepted 2 (min 5 (n .value)) t (n .next) e₃ .1 in
+    let r-within = read-of-readWithin 2 (min 5 (n .value)) t (n .next) e₃ in
     bind-congr _ _ _ _ (readWithin-take m bytes long 1 (r .value) (r .next) (omega arith)) λ s e₄.
     let at₄ = readWithin-next 1 (r .value) t (r .next) e₄ in
-    let s-within = readWithin-accepted 1 (r .value) t (r .next) e₄ .1 in
+    let s-within = read-of-readWithin 1 (r .value) t (r .next) e₄ in
     bind-congr _ _ _ _ (readWithin-take m bytes long (s .value) (n .value - 1) (s .next) (omega arith)) λ k e₅.
     let at₅ = readWithin-next (s .value) (n .value - 1) t (s .next) e₅ in
     bind-congr _ _ _ _ (readWithin-take m bytes long 1 4_096 (k .next) (omega arith)) λ b e₆.
     let at₆ = readWithin-next 1 4_096 t (k .next) e₆ in
-    let b-within = readWithin-accepted 1 4_096 t (k .next) e₆ .1 in
+    let b-within = read-of-readWithin 1 4_096 t (k .next) e₆ in
     bind-congr _ _ _ _ (readWithin-take m bytes long 0 (b .value) (b .next) (omega arith)) λ figure e₇.
     let at₇ = readWithin-next 0 (b .value) t (b .next) e₇ in
     let end = reach (figure .next) (s .value) (b .value) (r .value) (omega arith) (omega arith) (omega arith) (omega arith) in
