@@ -30,7 +30,7 @@ layer-rows P (layer ∷ layers) zero h = all-append-left P (layer .rows) (allRow
 layer-rows P (layer ∷ layers) (suc x) h = layer-rows P layers x (all-append-right P (layer .rows) (allRows layers) h)
 
 -- what holds of all layers holds of one
-layer-all : (P : Layer → Type 0) (layers : List Layer) (x : ℕ) → P (record { bound = 0; rows = [] }) → All P layers → P (blocksAt layers x)
+pub layer-all : (P : Layer → Type 0) (layers : List Layer) (x : ℕ) → P (record { bound = 0; rows = [] }) → All P layers → P (blocksAt layers x)
 layer-all P [] x d h = d
 layer-all P (layer ∷ layers) zero d h = h .0
 layer-all P (layer ∷ layers) (suc x) d h = layer-all P layers x d (h .1)

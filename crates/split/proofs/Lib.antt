@@ -1,1 +1,11 @@
 pub mod Worked
+pub mod Lists
+pub mod Least
+pub mod Copies
+pub mod Losses
+pub mod LossOf
+pub mod Heads
+pub mod LeastLoss
+pub mod NamedCounts
+pub mod Named
+pub mod Bounds
