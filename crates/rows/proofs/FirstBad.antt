@@ -1,14 +1,14 @@
 -- The first bad row, row by row: what is left to look at from row j on, and the row numbers from there. Assumes nothing.
-use Prim.Native.Nat.{ℕ, zero, suc, _+_, _*_, _-_, _≤_, _<_}
+use Prim.Native.Nat.{ℕ, suc, _+_, _-_, _≤_, _<_}
 use native.Mathlib.Omega.{arith}
-use mathlib.Core.Path.{_≡_, refl, ap, sym, _∙_}
-use mathlib.Core.Bool.{Bool, true, false}
-use mathlib.Core.List.{List, [], _∷_}
+use mathlib.Core.Path.{_≡_, refl}
+use mathlib.Core.Bool.{true, false}
+use mathlib.Core.List.{List}
 use mathlib.Core.Option.{Option, none, some}
-use lib.ListN.{length, take, drop}
+use lib.ListN.{take, drop}
 use lib.Seq.{drop-drop}
-use Rattle.lists.specs.Lists.{later, every, firstWhere}
-use Rattle.packing.specs.Rows.{ascending, inOrder, rowsAt, firstBad}
+use Rattle.lists.specs.Lists.{later, firstWhere}
+use Rattle.packing.specs.Rows.{inOrder, rowsAt, firstBad}
 
 -- j places further on
 abbrev pub laterBy : ℕ → Option ℕ → Option ℕ

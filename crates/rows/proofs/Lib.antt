@@ -1,3 +1,6 @@
+pub mod Lists
 pub mod Places
 pub mod Order
 pub mod FirstBad
+pub mod Blocks
+pub mod Written
