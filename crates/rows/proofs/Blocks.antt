@@ -1,12 +1,12 @@
--- Blocks written as rows, one after another. Assumes nothing.
+-- Rows in bytes, and blocks repeated as rows. Assumes nothing.
 use Prim.Native.Nat.{ℕ, zero, suc, _+_, _*_, _%_, _≤_, _<_}
 use native.Mathlib.Nat.{not-suc-le-zero, le-of-suc-le-suc, zero-mul, mod-self}
 use native.Mathlib.Numerals.{add-one}
 use native.Mathlib.Omega.{arith}
-use mathlib.Core.Path.{_≡_, refl, ap, _∙_}
+use mathlib.Core.Path.{_≡_, refl, sym, ap, _∙_}
 use mathlib.Core.List.{List, [], _∷_, _++_, map, flatten, map-append, append-nil}
 use lib.ListN.{length, getD, take, drop}
-use lib.Seq.{drop-drop}
+use lib.Seq.{drop-drop, take-add}
 use Rattle.lists.specs.Lists.{upTo}
 use Rattle.lists.proofs.Counts.{flatten-append}
 use Rattle.packing.specs.Rows.{rowsAt, repeated}
@@ -24,6 +24,14 @@ getD-rowsAt r (suc c) s zero h = rw (zero-mul r)
 getD-rowsAt r (suc c) s (suc i) h =
     let e : r + i * r ≡ suc i * r = omega arith in
     getD-rowsAt r c (drop r s) i (le-of-suc-le-suc h) ∙ rw (drop-drop (i * r) r s, e)
+
+-- the rows' bytes in a row
+pub flatten-rowsAt : (r c : ℕ) (s : List ℕ) → flatten (rowsAt r c s) ≡ take (c * r) s
+unfolding rowsAt flatten
+flatten-rowsAt r zero s = rw (zero-mul r)
+flatten-rowsAt r (suc c) s =
+    let e : suc c * r ≡ r + c * r = omega arith in
+    rw (flatten-rowsAt r c (drop r s), e) (sym (take-add r (c * r) s))
 
 pub flatten-repeated-next : (blocks : List (List ℕ)) (c : ℕ)
     → flatten (repeated blocks (c + 1)) ≡ flatten (repeated blocks c) ++ getD blocks (c % length blocks) []

@@ -4,3 +4,4 @@ pub mod Order
 pub mod FirstBad
 pub mod Blocks
 pub mod Written
+pub mod Load
