@@ -8,3 +8,4 @@ pub mod RowsChecked
 pub mod Files
 pub mod Prefix
 pub mod Worked
+pub mod FirstCrowded

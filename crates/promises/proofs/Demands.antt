@@ -57,16 +57,16 @@ pub record Kept (bytes : List ℕ) (pack : Pack) (s k b work output : ℕ) : Typ
   pub checked : checkPlacement (placementBytes placement) ≡ accepted placement
   -- "That placement has the pack's n and r, the given s, k and b"
   pub numbers : (placement .n ≡ pack .n)
-    × (placement .r ≡ pack .r)
-    × (placement .s ≡ s)
-    × (placement .k ≡ k)
-    × (placement .b ≡ b)
+      × (placement .r ≡ pack .r)
+      × (placement .s ≡ s)
+      × (placement .k ≡ k)
+      × (placement .b ≡ b)
   -- "and the F and counts of the answer"
   pub answer : planAnswer (plan bytes s k b work output)
-    ≡ record {
-      answer = Planned (length (placementBytes placement)) (placement .figure);
-      counts = five (map size (placement .layers))
-    }
+      ≡ record {
+        answer = Planned (length (placementBytes placement)) (placement .figure);
+        counts = five (map size (placement .layers));
+      }
   -- "so this F too holds whichever k nodes fail"
   pub survives : (failed : ℕ → Bool) → Failure (pack .n) k failed → placement .figure ≤ usable s (allRows (placement .layers)) failed
   -- "Every other split of the b records over the layers .. has a figure of at most F."
@@ -90,5 +90,5 @@ demand-3-planner bytes pack h e s k b order block work output hw ho =
       numbers = (refl, refl, refl, refl, refl);
       answer = ap planAnswer is-planned;
       survives = plan-survives bytes pack e s k b order block good;
-      best = named-highest (headsOf (pack .layers)) s k b (order .b-most) block
+      best = named-highest (headsOf (pack .layers)) s k b (order .b-most) block;
     }
