@@ -7,16 +7,16 @@ use Rattle.number.proofs.form_length.Statement.{statement}
 use Rattle.number.proofs.form_length.Tie as tie
 
 returns : tie.Need-returns
-returns c = sym (numberBytes-length-one _ (c .if1 .taken))
+returns c = sym (numberBytes-length-one _ (omega arith))
 
 returns-2 : tie.Need-returns-2
-returns-2 c = sym (numberBytes-length 1 _ (omega arith) (c .before .if1 .left) (c .if2 .taken))
+returns-2 c = sym (numberBytes-length 1 _ (omega arith) (omega arith) (omega arith))
 
 returns-3 : tie.Need-returns-3
-returns-3 c = sym (numberBytes-length 2 _ (omega arith) (c .before .if2 .left) (c .if3 .taken))
+returns-3 c = sym (numberBytes-length 2 _ (omega arith) (omega arith) (omega arith))
 
 returns-4 : tie.Need-returns-4
-returns-4 c = sym (numberBytes-length-four _ (c .if3 .left))
+returns-4 c = sym (numberBytes-length-four _ (omega arith))
 
 pub form-length-spec : {M : Type 1} → statement M
 form-length-spec = tie.close (tie.spec returns returns-2 returns-3 returns-4)

@@ -20,7 +20,7 @@ last-fits : (c : tie.Joined3 Inv-loop μ-loop)
     TurnFits (l .weight) (getD (c .before .before .before .before .before .before .args .bytes .now) (l .place) 0)
 last-fits c =
     let l = c .before .before .before .before .before .loop in
-    turn-fits _ _ _ _ _ _ (l .inv) (c .before .before .before .before .loop-test .taken) _
+    turn-fits _ _ _ _ _ _ (l .inv) (omega arith) _
     (c .before .before .shared-slice-known .given (l .place) .fits)
 
 more-fits : (c : tie.Else2 Inv-loop μ-loop)
@@ -28,14 +28,14 @@ more-fits : (c : tie.Else2 Inv-loop μ-loop)
     TurnFits (l .weight) (getD (c .before .before .before .before .before .args .bytes .now) (l .place) 0)
 more-fits c =
     let l = c .before .before .before .before .loop in
-    turn-fits _ _ _ _ _ _ (l .inv) (c .before .before .before .loop-test .taken) _
+    turn-fits _ _ _ _ _ _ (l .inv) (omega arith) _
     (c .before .shared-slice-known .given (l .place) .fits)
 
 loop-holds : tie.Need-loop-holds Inv-loop μ-loop
 loop-holds c = turn-holds _ _
 
 returns : tie.Need-returns Inv-loop μ-loop
-returns c = turn-ends _ _ _ _ _ _ (c .before .before .loop .inv) (c .before .loop-test .taken) (c .if1 .taken)
+returns c = turn-ends _ _ _ _ _ _ (c .before .before .loop .inv) (omega arith) (omega arith)
 
 shared-slice-read-byte : tie.Need-shared-slice-read-byte Inv-loop μ-loop
 shared-slice-read-byte c = search needs
@@ -46,7 +46,7 @@ cast-byte c = omega (arith, c .shared-slice-known .given (c .before .before .bef
 returns-2 : tie.Need-returns-2 Inv-loop μ-loop
 returns-2 c =
     let l = c .before .before .before .before .before .before .loop in
-    turn-zero-last _ _ _ _ _ _ (l .inv) (c .before .before .before .before .before .loop-test .taken) (omega arith) (omega arith)
+    turn-zero-last _ _ _ _ _ _ (l .inv) (omega arith) (omega arith) (omega arith)
     (omega (arith, ltb-true))
 
 mul-t17 : tie.Need-mul-t17 Inv-loop μ-loop
@@ -61,7 +61,7 @@ add-t19 c = search needs
 returns-3 : tie.Need-returns-3 Inv-loop μ-loop
 returns-3 c =
     let l = c .before .before .before .before .before .loop in
-    turn-last _ _ _ _ _ _ (l .inv) (c .before .before .before .before .loop-test .taken) (omega arith) (omega arith)
+    turn-last _ _ _ _ _ _ (l .inv) (omega arith) (omega arith) (omega arith)
     (⊎-elim (λ w. omega (arith, ltb-false)) (λ w. omega arith) (c .if3 .came))
 
 mul-sum : tie.Need-mul-sum Inv-loop μ-loop
@@ -85,11 +85,11 @@ loop-less c = search needs
 loop-again : tie.Need-loop-again Inv-loop μ-loop
 loop-again c =
     let l = c .before .before .before .before .loop in
-    turn-again _ _ _ _ _ _ (l .inv) (c .before .before .before .loop-test .taken) (omega arith) (omega arith)
+    turn-again _ _ _ _ _ _ (l .inv) (omega arith) (omega arith) (omega arith)
     (c .before .shared-slice-known .given (l .place) .fits)
 
 returns-4 : tie.Need-returns-4 Inv-loop μ-loop
-returns-4 c = turn-none _ _ _ _ _ _ (c .before .loop .inv) (c .loop-test .left)
+returns-4 c = turn-none _ _ _ _ _ _ (c .before .loop .inv) (omega arith)
 
 pub read-number-spec : {M : Type 1} → statement M
 read-number-spec =

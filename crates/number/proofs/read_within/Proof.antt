@@ -1,5 +1,6 @@
 -- `number::read_within` meets its contract: each return is a case of `readWithin`, over what `read_number` ensures of its
 -- answer. Assumes nothing.
+use native.Mathlib.Omega.{arith}
 use borrow.Author.Needs.{needs}
 use Rattle.number.proofs.Within.{answer-refused, answer-below, answer-above, answer-within}
 use Rattle.number.proofs.read_within.Statement.{statement}
@@ -20,17 +21,17 @@ returns c = answer-refused _ _ _ _ _ (c .before .before .read-number .ensures) (
 returns-2 : tie.Need-returns-2
 returns-2 c =
     answer-below _ _ _ _ _ (c .before .before .before .before .read-number .ensures) (c .before .before .first .given .1)
-    (c .if1 .taken)
+    (omega arith)
 
 returns-3 : tie.Need-returns-3
 returns-3 c =
     answer-above _ _ _ _ _ (c .before .before .before .before .before .read-number .ensures)
-    (c .before .before .before .first .given .1) (c .before .if1 .left) (c .if2 .taken)
+    (c .before .before .before .first .given .1) (omega arith) (omega arith)
 
 returns-4 : tie.Need-returns-4
 returns-4 c =
     answer-within _ _ _ _ _ (c .before .before .before .before .before .read-number .ensures)
-    (c .before .before .before .first .given .1) (c .before .if1 .left) (c .if2 .left)
+    (c .before .before .before .first .given .1) (omega arith) (omega arith)
 
 pub read-within-spec : {M : Type 1} → statement M
 read-within-spec =

@@ -15,16 +15,16 @@ abbrev μ-loop : tie.MeasureT-loop
 μ-loop out₀ v need rest₀ i₀ out rest i = rest
 
 returns : tie.Need-returns Inv-loop μ-loop
-returns c = answers-large _ _ (c .if1 .taken)
+returns c = answers-large _ _ (omega arith)
 
 form-length-requires : tie.Need-form-length-requires Inv-loop μ-loop
 form-length-requires c κs = search needs
 
 returns-2 : tie.Need-returns-2 Inv-loop μ-loop
-returns-2 c = answers-short _ _ _ (c .before .form-length .ensures) (c .before .before .if1 .left) (c .if2 .taken)
+returns-2 c = answers-short _ _ _ (c .before .form-length .ensures) (omega arith) (omega arith)
 
 loop-holds : tie.Need-loop-holds Inv-loop μ-loop
-loop-holds c = turn-holds _ _ (c .before .before .if1 .left) (rw (c .before .form-length .ensures) at (c .if2 .left))
+loop-holds c = turn-holds _ _ (omega arith) (omega arith)
 
 add-out : tie.Need-add-out Inv-loop μ-loop
 add-out c = search needs
@@ -48,7 +48,7 @@ loop-less : tie.Need-loop-less Inv-loop μ-loop
 loop-less c = omega arith
 
 loop-again : tie.Need-loop-again Inv-loop μ-loop
-loop-again c = turn-again _ _ _ _ _ (c .before .loop .inv) (c .loop-test .taken)
+loop-again c = turn-again _ _ _ _ _ (c .before .loop .inv) (omega arith)
 
 cast-out-2 : tie.Need-cast-out-2 Inv-loop μ-loop
 cast-out-2 c = search needs
@@ -61,8 +61,8 @@ same-length c = length-set (c .before .loop .out) _ _ ∙ c .before .loop .inv .
 
 returns-3 : tie.Need-returns-3 Inv-loop μ-loop
 returns-3 c =
-    answers-written _ _ _ (c .before .before .before .form-length .ensures) (c .before .before .before .before .if1 .left) _
-    (c .before .before .if2 .left) (turn-last _ _ _ _ _ (c .before .loop .inv) (c .loop-test .left))
+    answers-written _ _ _ (c .before .before .before .form-length .ensures) (omega arith) _
+    (omega arith) (turn-last _ _ _ _ _ (c .before .loop .inv) (omega arith))
 
 pub write-number-spec : {M : Type 1} → statement M
 write-number-spec =
