@@ -18,6 +18,7 @@ use Rattle.number.specs.Numbers.{Bytes, Reading, groups, readGroups}
 use Rattle.number.proofs.Lists.{cond-elim, all-getD, lt-of-drop-cons, getD-of-drop-cons, drop-suc-of-drop-cons}
 use Rattle.number.proofs.Groups.{capacity, capacity-pos, groups-elim, groups-small, groups-large}
 
+-- what is refused is not accepted
 pub not-accepted : {A : Type 0} {a : A} {why : Refusal} → refused why ≡ accepted a → ⊥
 not-accepted e = let f : _≡_ {A = ℕ} 0 1 = cc in omega arith
 
@@ -28,11 +29,12 @@ accepted-eq : {v w n m : ℕ} → v ≡ w → n ≡ m
     → _≡_ {A = Checked Reading} (accepted (record { value = v; next = n })) (accepted (record { value = w; next = m }))
 accepted-eq p q = λ i. accepted (record { value = p i; next = q i })
 
--- a zero group is refused only after another
+-- where the test for a zero group after another fails, a group after another is not zero
 not-zero-after : (byte start at : ℕ) → (eqb byte 0 && ltb start at) ≡ false → start < at → 0 < byte
 not-zero-after zero start at e h = let f : true ≡ false = sym (lt-ltb start at h) ∙ e in absurd (true≢false f)
 not-zero-after (suc byte) start at e h = omega arith
 
+-- and the other way round
 not-zero-after-of : (byte start at : ℕ) → (start < at → 0 < byte) → (eqb byte 0 && ltb start at) ≡ false
 not-zero-after-of zero start at pos = go (ltb start at) refl
   where

@@ -60,9 +60,7 @@ module _ (s : List ℕ) (start left at weight sum : ℕ) (turn : Turn s start le
     -- the weight is at most that of the fourth group
     weight-le : weight ≤ 2_097_152
     weight-le =
-        let groups : weight * (128 * 1) ≤ weight * (128 * capacity (left - 1)) =
-        mul-le-mul-left weight (mul-le-mul-left 128 (capacity-pos (left - 1)))
-        in
+        let one = mul-le-mul-left weight (mul-le-mul-left 128 (capacity-pos (left - 1))) in
         let fit : weight * capacity (suc (left - 1)) ≤ 268_435_456 = rw one-more at (turn .fits) in
         omega arith
 
