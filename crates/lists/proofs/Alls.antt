@@ -25,9 +25,18 @@ module _ {A : Type 0} where
   all-imp P Q f [] h = tt
   all-imp P Q f (a ∷ l) h = (f a (h .0), all-imp P Q f l (h .1))
 
+  -- two statements at once
+  pub all-both : (P Q : A → Type 0) (l : List A) → All P l → All Q l → All (λ a. P a × Q a) l
+  all-both P Q [] h g = tt
+  all-both P Q (a ∷ l) h g = ((h .0, g .0), all-both P Q l (h .1) (g .1))
+
   pub all-map : {B : Type 0} (P : A → Type 0) (g : B → A) (l : List B) → All (λ b. P (g b)) l → All P (map g l)
   all-map P g [] h = tt
   all-map P g (b ∷ l) h = (h .0, all-map P g l (h .1))
+
+  pub all-of-map : {B : Type 0} (P : A → Type 0) (g : B → A) (l : List B) → All P (map g l) → All (λ b. P (g b)) l
+  all-of-map P g [] h = tt
+  all-of-map P g (b ∷ l) h = (h .0, all-of-map P g l (h .1))
 
   pub all-getD : (P : A → Type 0) (l : List A) (i : ℕ) (d : A) → All P l → i < length l → P (getD l i d)
   all-getD P [] i d h lt = absurd (not-suc-le-zero lt)

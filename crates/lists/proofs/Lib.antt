@@ -5,3 +5,5 @@ pub mod Finds
 pub mod UpTo
 pub mod Listed
 pub mod CountUpTo
+pub mod DoubleCount
+pub mod Parts

@@ -1,7 +1,7 @@
 -- A Bool as a test that passed: between `T b`, `b ≡ true` and its parts. Assumes nothing.
 use mathlib.Core.Path.{_≡_, refl, sym, subst}
 use mathlib.Core.Logic.{_⊎_, inl, inr}
-use mathlib.Core.Bool.{Bool, true, false, not, _&&_, _||_, false≢true}
+use mathlib.Core.Bool.{Bool, true, false, cond, _&&_, _||_}
 use lib.Dec.{T}
 
 pub T-true : {b : Bool} → b ≡ true → T b
@@ -54,3 +54,8 @@ pub bool-ext : (a b : Bool) → (T a → T b) → (T b → T a) → a ≡ b
 bool-ext true b f g = sym (true-T b (f tt))
 bool-ext false true f g = absurd (g tt)
 bool-ext false false f g = refl
+
+-- what holds of both choices holds of the choice
+pub cond-elim : {A : Type 0} (P : A → Type 0) (b : Bool) {x y : A} → (b ≡ true → P x) → (b ≡ false → P y) → P (cond b x y)
+cond-elim P true yes-case no-case = yes-case refl
+cond-elim P false yes-case no-case = no-case refl

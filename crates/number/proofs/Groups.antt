@@ -8,7 +8,7 @@ use lib.ListN.{length}
 use lib.Dec.{ltb}
 use borrow.Author.Tests.{ltb-true, ltb-false, lt-ltb, le-ltb}
 use Rattle.number.specs.Numbers.{groups, Bytes}
-use Rattle.number.proofs.Lists.{cond-elim}
+use Rattle.lists.proofs.Tests.{cond-elim}
 
 -- how many numbers n groups of seven bits hold
 abbrev pub capacity : ℕ → ℕ

@@ -1,4 +1,3 @@
-pub mod Lists
 pub mod Groups
 pub mod ReadGroups
 pub mod Reading

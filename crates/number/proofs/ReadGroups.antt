@@ -15,15 +15,11 @@ use Rattle.refusal.specs.declared.Refusal.{Refusal}
 use Rattle.refusal.specs.declared.Refusal.the-variants.{Ended, Malformed}
 use Rattle.refusal.specs.Checked.{Checked, accepted, refused}
 use Rattle.number.specs.Numbers.{Bytes, Reading, groups, readGroups}
-use Rattle.number.proofs.Lists.{cond-elim, all-getD, lt-of-drop-cons, getD-of-drop-cons, drop-suc-of-drop-cons}
+use Rattle.lists.proofs.Tests.{cond-elim}
+use Rattle.lists.proofs.Alls.{all-getD}
+use Rattle.lists.proofs.Parts.{lt-of-drop-cons, getD-of-drop-cons, drop-suc-of-drop-cons}
+use Rattle.refusal.proofs.Checked.{accepted-injective, refused-not-accepted}
 use Rattle.number.proofs.Groups.{capacity, capacity-pos, groups-elim, groups-small, groups-large}
-
--- what is refused is not accepted
-pub not-accepted : {A : Type 0} {a : A} {why : Refusal} → refused why ≡ accepted a → ⊥
-not-accepted e = let f : _≡_ {A = ℕ} 0 1 = cc in omega arith
-
-pub accepted-inj : {A : Type 0} {a b : A} → accepted a ≡ accepted b → a ≡ b
-accepted-inj e = cc
 
 accepted-eq : {v w n m : ℕ} → v ≡ w → n ≡ m
     → _≡_ {A = Checked Reading} (accepted (record { value = v; next = n })) (accepted (record { value = w; next = m }))
@@ -141,10 +137,10 @@ readGroups-next (suc left) s start at weight sum n e =
     at
     weight
     sum
-    (λ ends e. absurd (not-accepted e))
+    (λ ends e. absurd (refused-not-accepted e))
     (λ inside follows e. omega (arith, readGroups-next left s start (suc at) _ _ n e))
-    (λ inside zeroLast after e. absurd (not-accepted e))
-    (λ inside last after e. let next : suc at ≡ n .next = ap (λ (r : Reading). r .next) (accepted-inj e) in omega arith)
+    (λ inside zeroLast after e. absurd (refused-not-accepted e))
+    (λ inside last after e. let next : suc at ≡ n .next = ap (λ (r : Reading). r .next) (accepted-injective e) in omega arith)
     e
 
 -- What a run of steps has read: the groups of a number that fits.
@@ -204,10 +200,10 @@ groups-readGroups zero s start at weight sum n bytes le e =
     at
     weight
     sum
-    (λ ends e. absurd (not-accepted e))
-    (λ inside follows e. absurd (not-accepted e))
-    (λ inside zeroLast after e. absurd (not-accepted e))
-    (λ inside last after e. groupsRead-last zero s start at weight sum n inside last after (accepted-inj e))
+    (λ ends e. absurd (refused-not-accepted e))
+    (λ inside follows e. absurd (refused-not-accepted e))
+    (λ inside zeroLast after e. absurd (refused-not-accepted e))
+    (λ inside last after e. groupsRead-last zero s start at weight sum n inside last after (accepted-injective e))
     e
 groups-readGroups (suc more) s start at weight sum n bytes le e =
     readGroups-elim
@@ -218,13 +214,13 @@ groups-readGroups (suc more) s start at weight sum n bytes le e =
     at
     weight
     sum
-    (λ ends e. absurd (not-accepted e))
+    (λ ends e. absurd (refused-not-accepted e))
     (λ inside follows e.
     let place = readGroups-next (suc more) s start (suc at) _ _ n e in
     groupsRead-follows more s start at weight sum n bytes le inside follows (omega arith) (place .2)
     (groups-readGroups more s start (suc at) _ _ n bytes (omega arith) e))
-    (λ inside zeroLast after e. absurd (not-accepted e))
-    (λ inside last after e. groupsRead-last (suc more) s start at weight sum n inside last after (accepted-inj e))
+    (λ inside zeroLast after e. absurd (refused-not-accepted e))
+    (λ inside last after e. groupsRead-last (suc more) s start at weight sum n inside last after (accepted-injective e))
     e
 
 -- A refused reading: the input ended, or the number is malformed.
@@ -244,7 +240,7 @@ readGroups-refused (suc left) s start at weight sum why e =
     (λ ends e. inl (cc))
     (λ inside follows e. readGroups-refused left s start (suc at) _ _ why e)
     (λ inside zeroLast after e. inr (cc))
-    (λ inside last after e. absurd (not-accepted (sym e)))
+    (λ inside last after e. absurd (refused-not-accepted (sym e)))
     e
 
 -- Where the groups that may come are all inside the first m bytes, the bytes after those don't matter.

@@ -12,7 +12,8 @@ use Rattle.refusal.specs.declared.Refusal.the-variants.{Ended, Malformed}
 use Rattle.refusal.specs.Checked.{accepted, refused}
 use Rattle.number.specs.Numbers.{Bytes, Form, Reading, largestNumber, groups, numberBytes, readNumber}
 use Rattle.number.proofs.Groups.{capacity, groups-small, groups-bytes, groups-length-pos, groups-length-le}
-use Rattle.number.proofs.ReadGroups.{accepted-inj, groups-readGroups, readGroups-groups, readGroups-next, readGroups-refused, readGroups-take}
+use Rattle.refusal.proofs.Checked.{accepted-injective}
+use Rattle.number.proofs.ReadGroups.{groups-readGroups, readGroups-groups, readGroups-next, readGroups-refused, readGroups-take}
 
 -- "The largest is 268,435,455": a number fits four groups.
 fits-four : (v : ℕ) → v ≤ largestNumber → v < capacity 4
@@ -73,7 +74,7 @@ form-unique p q = p .1 ∙ sym (q .1)
 -- a form is of one number
 pub form-value-unique : {v w : ℕ} {f : List ℕ} → Form v f → Form w f → v ≡ w
 form-value-unique {v} {w} {f} p q =
-    ap (λ (r : Reading). r .value) (accepted-inj (sym (form-read [] [] p) ∙ form-read [] [] q))
+    ap (λ (r : Reading). r .value) (accepted-injective (sym (form-read [] [] p) ∙ form-read [] [] q))
 
 -- "It has one to four groups."
 pub form-length : {v : ℕ} {f : List ℕ} → Form v f → (1 ≤ length f) × (length f ≤ 4)

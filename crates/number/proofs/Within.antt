@@ -12,7 +12,7 @@ use Rattle.number.specs.Numbers.{Reading, readNumber, readWithin}
 use Rattle.number.specs.Answers.{numberRead}
 use Rattle.number.specs.declared.NumberRead.{NumberRead}
 use Rattle.number.specs.declared.NumberRead.the-variants.{Value, Refused}
-use Rattle.number.proofs.ReadGroups.{not-accepted, accepted-inj}
+use Rattle.refusal.proofs.Checked.{accepted-injective, refused-not-accepted}
 
 -- the code's answer says what was read
 pub numberRead-value : (r : Checked Reading) {v next : ℕ} → Value v next ≡ numberRead r
@@ -58,14 +58,14 @@ module _ (lo hi : ℕ) (s : List ℕ) (at : ℕ) where
           → readNumber s at ≡ accepted m → (readNumber s at ≡ accepted n) × (lo ≤ n .value) × (n .value ≤ hi)
       test m true t e r =
           let both = and-eq-true-iff (leb lo (m .value)) (leb (m .value) hi) .0 t in
-          rw (← accepted-inj e) (r, leb-true lo (m .value) (both .0), leb-true (m .value) hi (both .1))
-      test m false t e r = absurd (not-accepted e)
+          rw (← accepted-injective e) (r, leb-true lo (m .value) (both .0), leb-true (m .value) hi (both .1))
+      test m false t e r = absurd (refused-not-accepted e)
 
       go : (r : Checked Reading) → readNumber s at ≡ r
           → (r >>= λ number. require (leb lo (number .value) && leb (number .value) hi) (OutsideLimits at) >>= (λ u. accepted number)) ≡ accepted n
           → (readNumber s at ≡ accepted n) × (lo ≤ n .value) × (n .value ≤ hi)
       go (accepted m) r e = test m (leb lo (m .value) && leb (m .value) hi) refl e r
-      go (refused why) r e = absurd (not-accepted e)
+      go (refused why) r e = absurd (refused-not-accepted e)
 
   -- The answers of `read_within`, over what `read_number` answered.
   module _ (first : NumberRead) (is : first ≡ numberRead (readNumber s at)) where

@@ -15,7 +15,8 @@ use Rattle.lists.proofs.UpTo.{all-upTo}
 use Rattle.packing.specs.Rows.{ascending, Row, member, distinct}
 use Rattle.packing.specs.Failures.{Failure, hits}
 use Rattle.packing.proofs.Members.{member-here, member-later, distinct-head, distinct-tail, row-distinct}
-use Rattle.packing.proofs.Counting.{all-both, double-count, count-split, count-eqb-upTo}
+use Rattle.lists.proofs.Alls.{all-both}
+use Rattle.lists.proofs.DoubleCount.{double-count, count-split, count-eqb-upTo}
 
 -- A record "fails when at least s of them are on failed nodes".
 abbrev pub fails : (s : ℕ) (failed : ℕ → Bool) (row : List ℕ) → Bool

@@ -2,7 +2,6 @@ pub mod Members
 pub mod Sets
 pub mod Test
 pub mod Copies
-pub mod Counting
 pub mod Hits
 pub mod Floors
 pub mod Survivors

@@ -16,7 +16,7 @@ use Rattle.binomial.specs.Choose.{choose}
 use Rattle.packing.specs.Rows.{Row, member, distinct, holds, together, Packing}
 use Rattle.packing.specs.Failures.{Failure, hits, usable}
 use Rattle.packing.proofs.Members.{distinct-cons, row-distinct}
-use Rattle.packing.proofs.Counting.{count-mono-all, double-count}
+use Rattle.lists.proofs.DoubleCount.{count-mono-all, double-count}
 use Rattle.packing.proofs.Hits.{fails, up, hits-up, failure-up, failed-of-up, not-member-of-up, hits-le-count}
 use Rattle.packing.proofs.Floors.{nestedFloors, nested-le-floor}
 

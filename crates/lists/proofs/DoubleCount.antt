@@ -7,15 +7,11 @@ use mathlib.Core.Bool.{Bool, true, false, not, _&&_}
 use mathlib.Core.List.{List, [], _∷_}
 use lib.Dec.{T, eqb, eqb→eq}
 use borrow.Author.Tests.{ne-eqb, eqb-true, eqb-false}
 use Rattle.lists.specs.Lists.{All, tally, count, upTo}
 use Rattle.lists.proofs.Counts.{tally-mono}
 use Rattle.lists.proofs.CountUpTo.{count-upTo-suc}
 
 module _ {A : Type 0} where
-  pub all-both : (P Q : A → Type 0) (l : List A) → All P l → All Q l → All (λ a. P a × Q a) l
-  all-both P Q [] h g = tt
-  all-both P Q (a ∷ l) h g = ((h .0, g .0), all-both P Q l (h .1) (g .1))
-
   -- `count-mono` where one test passes with another only on the list's elements
   pub count-mono-all : (f g : A → Bool) (l : List A) → All (λ a. T (f a) → T (g a)) l → count f l ≤ count g l
   unfolding count

@@ -1,25 +1,13 @@
--- General laws on lists and tests that the proofs on numbers use. Assumes nothing.
+-- Parts of lists: from a place on, and between two places. Assumes nothing.
 use Prim.Native.Nat.{ℕ, zero, suc, _-_, _<_, suc-le-suc}
-use native.Mathlib.Nat.{not-suc-le-zero, le-of-suc-le-suc, zero-lt-suc, sub-zero, zero-sub, suc-sub-suc}
+use native.Mathlib.Nat.{zero-lt-suc, sub-zero, zero-sub, suc-sub-suc}
 use native.Mathlib.Omega.{arith}
 use mathlib.Core.Path.{_≡_, refl, sym, _∙_, ap}
-use mathlib.Core.Bool.{Bool, true, false, cond}
 use mathlib.Core.List.{List, [], _∷_}
 use lib.ListN.{length, getD, take, drop}
 use lib.Seq.{slice, take-nil, drop-nil, drop-cons}
-use Rattle.lists.specs.Lists.{All}
-
--- What holds of both choices holds of the choice.
-pub cond-elim : {A : Type 0} (P : A → Type 0) (b : Bool) {x y : A} → (b ≡ true → P x) → (b ≡ false → P y) → P (cond b x y)
-cond-elim P true yes-case no-case = yes-case refl
-cond-elim P false yes-case no-case = no-case refl
 
 module _ {A : Type 0} where
-  pub all-getD : (P : A → Type 0) (l : List A) (i : ℕ) (d : A) → All P l → i < length l → P (getD l i d)
-  all-getD P [] i d h lt = absurd (not-suc-le-zero lt)
-  all-getD P (a ∷ l) zero d h lt = h .0
-  all-getD P (a ∷ l) (suc i) d h lt = all-getD P l i d (h .1) (le-of-suc-le-suc lt)
-
   -- a list from place i on that has a first element: i is a place of the list, and that element stands there
   pub lt-of-drop-cons : (l : List A) (i : ℕ) {a : A} {t : List A} → drop i l ≡ a ∷ t → i < length l
   lt-of-drop-cons [] i {t = t} e =
