@@ -1,0 +1,9 @@
+pub mod Lists
+pub mod Sets
+pub mod Codes
+pub mod Keys
+pub mod First
+pub mod Runs
+pub mod Crowded
+pub mod Extended
+pub mod Filled
