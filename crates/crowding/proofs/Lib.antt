@@ -7,3 +7,4 @@ pub mod Runs
 pub mod Crowded
 pub mod Extended
 pub mod Filled
+pub mod Order

@@ -21,69 +21,72 @@ extend-at t = and 2 extend-kinds.ps (is 2 extend-kinds.ps μ-extend t) extend.Pr
 abbrev extend-below : ℕ → In 2 extend-kinds.ps
 extend-below t = and 2 extend-kinds.ps (falls 2 extend-kinds.ps _<_ μ-extend t) extend.Pre
 
-extend-mul-keys : (t : ℕ) → extend-lts.Need-mul-keys (wide-reads.Asked, wide-reads.Learnt, extend-below t, extend.Post) (extend-at t) extend.Post
+abbrev callees : ℕ → extend-lts.Claims
+callees t = (wide-reads.Asked, wide-reads.Learnt, extend-below t, extend.Post)
+
+extend-mul-keys : (t : ℕ) → extend-lts.Need-mul-keys (callees t) (extend-at t) extend.Post
 extend-mul-keys t c =
     let g = c .before .before .before .args in
     let l = drop (g .p) (g .row .now) in
     omega (arith, code-end (g .left) (g .code) (g .number) l (c .if1 .taken) (c .before .before .before .pre .1 .0 .2))
 
-extend-add-keys : (t : ℕ) → extend-lts.Need-add-keys (wide-reads.Asked, wide-reads.Learnt, extend-below t, extend.Post) (extend-at t) extend.Post
+extend-add-keys : (t : ℕ) → extend-lts.Need-add-keys (callees t) (extend-at t) extend.Post
 extend-add-keys t c =
     let g = c .before .before .before .args in
     let l = drop (g .p) (g .row .now) in
     omega (arith, code-end (g .left) (g .code) (g .number) l (c .if1 .taken) (c .before .before .before .pre .1 .0 .2), c .before .before .before .pre .1 .0 .1)
 
-extend-mul-keys-2 : (t : ℕ) → extend-lts.Need-mul-keys-2 (wide-reads.Asked, wide-reads.Learnt, extend-below t, extend.Post) (extend-at t) extend.Post
+extend-mul-keys-2 : (t : ℕ) → extend-lts.Need-mul-keys-2 (callees t) (extend-at t) extend.Post
 extend-mul-keys-2 t c = search needs
 
-extend-slice-write-keys : (t : ℕ) → extend-lts.Need-slice-write-keys (wide-reads.Asked, wide-reads.Learnt, extend-below t, extend.Post) (extend-at t) extend.Post
+extend-slice-write-keys : (t : ℕ) → extend-lts.Need-slice-write-keys (callees t) (extend-at t) extend.Post
 extend-slice-write-keys t c =
     let g = c .before .before .before .args in
     let l = drop (g .p) (g .row .now) in
     omega (arith, length-end (g .left) (g .code) (g .number) l (c .if1 .taken), c .before .before .before .pre .1 .1)
 
-extend-add-result : (t : ℕ) → extend-lts.Need-add-result (wide-reads.Asked, wide-reads.Learnt, extend-below t, extend.Post) (extend-at t) extend.Post
+extend-add-result : (t : ℕ) → extend-lts.Need-add-result (callees t) (extend-at t) extend.Post
 extend-add-result t c =
     let g = c .before .before .before .args in
     let l = drop (g .p) (g .row .now) in
     omega (arith, length-end (g .left) (g .code) (g .number) l (c .if1 .taken), c .before .before .before .pre .1 .1)
 
-extend-same-length : (t : ℕ) → extend-lts.Need-same-length (wide-reads.Asked, wide-reads.Learnt, extend-below t, extend.Post) (extend-at t) extend.Post
+extend-same-length : (t : ℕ) → extend-lts.Need-same-length (callees t) (extend-at t) extend.Post
 extend-same-length t c = search needs
 
-extend-returns : (t : ℕ) → extend-lts.Need-returns (wide-reads.Asked, wide-reads.Learnt, extend-below t, extend.Post) (extend-at t) extend.Post
+extend-returns : (t : ℕ) → extend-lts.Need-returns (callees t) (extend-at t) extend.Post
 extend-returns t c =
     let g = c .before .before .before .args in
     let l = drop (g .p) (g .row .now) in
     (omega (arith, length-end (g .left) (g .code) (g .number) l (c .if1 .taken)), written-end (g .left) (g .code) (g .number) l (c .if1 .taken) (g .keys .now) (g .at) (c .before .before .before .pre .1 .1))
 
-extend-sub-if2 : (t : ℕ) → extend-lts.Need-sub-if2 (wide-reads.Asked, wide-reads.Learnt, extend-below t, extend.Post) (extend-at t) extend.Post
+extend-sub-if2 : (t : ℕ) → extend-lts.Need-sub-if2 (callees t) (extend-at t) extend.Post
 extend-sub-if2 t c = search needs
 
-extend-returns-2 : (t : ℕ) → extend-lts.Need-returns-2 (wide-reads.Asked, wide-reads.Learnt, extend-below t, extend.Post) (extend-at t) extend.Post
+extend-returns-2 : (t : ℕ) → extend-lts.Need-returns-2 (callees t) (extend-at t) extend.Post
 extend-returns-2 t c =
     let g = c .before .before .before .before .args in (
       length-few (g .left) (g .code) (g .number) (g .row .now) (g .p) (c .if2 .taken) (g .at),
       written-few (g .left) (g .code) (g .number) (g .row .now) (g .p) (c .if2 .taken) (take (g .at) (g .keys .now)),
     )
 
-extend-add-extend : (t : ℕ) → extend-lts.Need-add-extend (wide-reads.Asked, wide-reads.Learnt, extend-below t, extend.Post) (extend-at t) extend.Post
+extend-add-extend : (t : ℕ) → extend-lts.Need-add-extend (callees t) (extend-at t) extend.Post
 extend-add-extend t c = search needs
 
-extend-sub-extend : (t : ℕ) → extend-lts.Need-sub-extend (wide-reads.Asked, wide-reads.Learnt, extend-below t, extend.Post) (extend-at t) extend.Post
+extend-sub-extend : (t : ℕ) → extend-lts.Need-sub-extend (callees t) (extend-at t) extend.Post
 extend-sub-extend t c = search needs
 
-extend-mul-extend : (t : ℕ) → extend-lts.Need-mul-extend (wide-reads.Asked, wide-reads.Learnt, extend-below t, extend.Post) (extend-at t) extend.Post
+extend-mul-extend : (t : ℕ) → extend-lts.Need-mul-extend (callees t) (extend-at t) extend.Post
 extend-mul-extend t c =
     omega (arith, code-room (c .before .before .before .before .args .code) (c .before .before .before .before .args .left) (c .before .if1 .left) (c .before .before .before .before .pre .1 .0 .2))
 
-extend-shared-slice-read-wide : (t : ℕ) → extend-lts.Need-shared-slice-read-wide (wide-reads.Asked, wide-reads.Learnt, extend-below t, extend.Post) (extend-at t) extend.Post
+extend-shared-slice-read-wide : (t : ℕ) → extend-lts.Need-shared-slice-read-wide (callees t) (extend-at t) extend.Post
 extend-shared-slice-read-wide t c = search needs
 
-extend-wide-requires : (t : ℕ) → extend-lts.Need-wide-requires (wide-reads.Asked, wide-reads.Learnt, extend-below t, extend.Post) (extend-at t) extend.Post
+extend-wide-requires : (t : ℕ) → extend-lts.Need-wide-requires (callees t) (extend-at t) extend.Post
 extend-wide-requires t c κs = search needs
 
-extend-add-extend-2 : (t : ℕ) → extend-lts.Need-add-extend-2 (wide-reads.Asked, wide-reads.Learnt, extend-below t, extend.Post) (extend-at t) extend.Post
+extend-add-extend-2 : (t : ℕ) → extend-lts.Need-add-extend-2 (callees t) (extend-at t) extend.Post
 extend-add-extend-2 t c =
     omega (
       arith,
@@ -92,7 +95,7 @@ extend-add-extend-2 t c =
       c .before .shared-slice-known2 .given (c .before .before .before .before .before .before .args .p),
     )
 
-extend-extend-requires : (t : ℕ) → extend-lts.Need-extend-requires (wide-reads.Asked, wide-reads.Learnt, extend-below t, extend.Post) (extend-at t) extend.Post
+extend-extend-requires : (t : ℕ) → extend-lts.Need-extend-requires (callees t) (extend-at t) extend.Post
 extend-extend-requires t c κs =
     let g = c .before .before .before .before .before .before .before .args in
     let lt : g .p < length (g .row .now) = omega arith in
@@ -110,10 +113,10 @@ extend-extend-requires t c κs =
       ),
     )
 
-extend-add-extend-3 : (t : ℕ) → extend-lts.Need-add-extend-3 (wide-reads.Asked, wide-reads.Learnt, extend-below t, extend.Post) (extend-at t) extend.Post
+extend-add-extend-3 : (t : ℕ) → extend-lts.Need-add-extend-3 (callees t) (extend-at t) extend.Post
 extend-add-extend-3 t c = search needs
 
-extend-extend-requires-2 : (t : ℕ) → extend-lts.Need-extend-requires-2 (wide-reads.Asked, wide-reads.Learnt, extend-below t, extend.Post) (extend-at t) extend.Post
+extend-extend-requires-2 : (t : ℕ) → extend-lts.Need-extend-requires-2 (callees t) (extend-at t) extend.Post
 extend-extend-requires-2 t c κs =
     let g = c .before .before .before .before .before .before .before .before .before .before .before .args in
     let lt : g .p < length (g .row .now) = omega (arith, c .before .before .before .before .before .before .before .if2 .left, c .before .before .before .before .before .before .before .before .if1 .left) in
@@ -125,10 +128,10 @@ extend-extend-requires-2 t c κs =
       ),
     )
 
-extend-same-length-2 : (t : ℕ) → extend-lts.Need-same-length-2 (wide-reads.Asked, wide-reads.Learnt, extend-below t, extend.Post) (extend-at t) extend.Post
+extend-same-length-2 : (t : ℕ) → extend-lts.Need-same-length-2 (callees t) (extend-at t) extend.Post
 extend-same-length-2 t c = search needs
 
-extend-returns-3 : (t : ℕ) → extend-lts.Need-returns-3 (wide-reads.Asked, wide-reads.Learnt, extend-below t, extend.Post) (extend-at t) extend.Post
+extend-returns-3 : (t : ℕ) → extend-lts.Need-returns-3 (callees t) (extend-at t) extend.Post
 extend-returns-3 t c =
     let g = c .before .before .before .before .before .before .before .before .before .before .before .before .before .before .args in
     let lt : g .p < length (g .row .now) = omega (arith, c .before .before .before .before .before .before .before .before .before .before .if2 .left, c .before .before .before .before .before .before .before .before .before .before .before .if1 .left) in
@@ -140,7 +143,7 @@ extend-returns-3 t c =
     )
 
 pub +extend-spec : {M : Type 1} → statement M
-+extend-spec = close μ-extend λ t. extend-lts.spec (wide-reads.Asked, wide-reads.Learnt, extend-below t, extend.Post)
++extend-spec = close μ-extend λ t. extend-lts.spec (callees t)
     (extend-at t)
     extend.Post
     (extend-mul-keys t)
