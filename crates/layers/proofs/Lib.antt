@@ -7,5 +7,7 @@ pub mod Packings
 pub mod RowsChecked
 pub mod Files
 pub mod Prefix
+pub mod Readings
+pub mod ReadLoop
 pub mod Worked
 pub mod FirstCrowded
