@@ -9,5 +9,8 @@ pub mod Files
 pub mod Prefix
 pub mod Readings
 pub mod ReadLoop
+pub mod Arrays
+pub mod CrowdLoop
+pub mod RowsAnswers
 pub mod Worked
 pub mod FirstCrowded

@@ -16,6 +16,8 @@ use Rattle.layers.specs.declared.LayerRead.the-variants.{Numbers, Refuse
 use Rattle.layers.specs.declared.HeadsAnswer.{HeadsAnswer}
 use Rattle.layers.specs.declared.HeadsAnswer.the-variants.{Next, Refused}
 use Rattle.layers.specs.declared.LayersRead.{LayersRead}
+use Rattle.layers.specs.declared.RowsAnswer.{RowsAnswer}
+use Rattle.layers.specs.declared.RowsAnswer.the-variants.{Good, Refused as RowsRefused}
 
 -- the refusal of a number that was not read; the code asks it of no other
 abbrev pub refusalOf : NumberRead → Refusal
@@ -65,3 +67,12 @@ layerFailed (LayerRefused e) = record { answer = Refused e; bound = five []; siz
 -- the two numbers of the first layers that the code's arrays give
 abbrev pub arrayHeads : (layers : ℕ) (bound size : List ℕ) → List LayerHead
 arrayHeads layers bound size = map (λ x. record { bound = getD bound x 0; size = getD size x 0 }) (upTo layers)
+
+abbrev pub rowsAnswer : {A : Type 0} → Checked A → RowsAnswer
+rowsAnswer (accepted a) = Good
+rowsAnswer (refused e) = RowsRefused e
+
+-- good rows have no value of their own
+abbrev pub rowsOutcome : RowsAnswer → Outcome
+rowsOutcome Good = result []
+rowsOutcome (RowsRefused e) = refusalOutcome e
