@@ -12,5 +12,6 @@ pub mod ReadLoop
 pub mod Arrays
 pub mod CrowdLoop
 pub mod RowsAnswers
+pub mod Stages
 pub mod Worked
 pub mod FirstCrowded

@@ -1,3 +1,4 @@
 pub mod Accepted
 pub mod Prefix
+pub mod Stages
 pub mod Worked

@@ -1,3 +1,4 @@
 pub mod Pack
 pub mod Answers
+pub mod Stages
 pub mod SevenCabinets
