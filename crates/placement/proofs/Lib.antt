@@ -2,4 +2,5 @@ pub mod Written
 pub mod Survivors
 pub mod Accepted
 pub mod Prefix
+pub mod Losses
 pub mod Worked

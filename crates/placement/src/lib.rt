@@ -1,4 +1,18 @@
 // Placements: records' rows in layers, with their survivor figure.
+ghost use mathlib.Core.Path.{_≡_};
+ghost use Prim.Native.Nat.{_*_, _/_, _^_, _≤_, _<_, min};
+ghost use lib.ListN.{length};
+ghost use Rattle.lists.specs.Lists.{All};
+ghost use Rattle.layers.specs.Layers.{sizes};
+ghost use Rattle.layers.specs.Answers.{arrayHeads};
+ghost use Rattle.placement.specs.Figure.{figureOf};
+ghost use Rattle.placement.specs.Placement.{checkPlacement};
+ghost use Rattle.placement.specs.Answers.{placementChecked};
+ghost use Rattle.placement.specs.Stages.{
+    placementRefused, HeadLimits, afterKind, afterN, afterR, afterS, afterK, afterB, afterFigure
+};
+use layers::{HeadsAnswer, RowsAnswer};
+use number::NumberRead;
 use refusal::Refusal;
 
 // What checking a placement gives: its numbers and the place of its first row, or the refusal.
@@ -20,4 +34,181 @@ pub struct PlacementCheck {
     pub answer: PlacementAnswer,
     pub lambda: [usize; 5],
     pub c: [usize; 5],
+}
+
+// A placement's numbers before its layers', and the place where the figure starts.
+pub struct Head {
+    pub n: usize,
+    pub r: usize,
+    pub s: usize,
+    pub k: usize,
+    pub b: usize,
+    pub figure: usize,
+    pub place: usize,
+}
+
+// The loss of a layer of c rows, with `above` for C(k,x+1) and `below` for C(s,x+1).
+fn loss(lambda: usize, c: usize, above: usize, below: usize) -> usize
+    requires { ⌜ (lambda * above < 2 ^ 63) × (1 ≤ below) ⌝ }
+    ensures { λ r. ⌜ r ≡ min c (lambda * above / below) ⌝ }
+{
+    layers::smaller(c, lambda * above / below)
+}
+
+// The figure: b less the losses of the layers below s. The two binomials are looked up once a layer.
+fn figure_of(s: usize, k: usize, b: usize, lambda: [usize; 5], c: [usize; 5]) -> usize
+    requires { ⌜ (s ≤ 5) × (k ≤ 255) × (sizes (arrayHeads s lambda c) ≤ b) ⌝ }
+    requires { ⌜ All (λ head. head .bound ≤ 16_777_216) (arrayHeads s lambda c) ⌝ }
+    ensures { λ r. ⌜ r ≡ figureOf s k b (arrayHeads s lambda c) ⌝ }
+{
+    let mut lost: usize = 0;
+    let mut x: usize = 0;
+    while x < s {
+        let above = binomial::binomial(k, x + 1);
+        let below = binomial::binomial(s, x + 1);
+        lost += loss(lambda[x], c[x], above, below);
+        x += 1;
+    }
+    b - lost
+}
+
+// The answer that refuses.
+fn refuse(e: Refusal) -> PlacementCheck
+    ensures { λ check. ⌜ check ≡ placementRefused e ⌝ }
+{
+    PlacementCheck {
+        answer: PlacementAnswer::Refused(e),
+        lambda: [0; 5],
+        c: [0; 5],
+    }
+}
+
+// The check of a placement from its layers' numbers on, which start at `at`: these numbers, then the rows, then the figure.
+fn after_figure(bytes: &[u8], head: Head, at: usize) -> PlacementCheck
+    requires { ⌜ HeadLimits head ⌝ }
+    requires { ⌜ at ≤ length (now bytes) ⌝ }
+    ensures { λ check. ⌜ check ≡ placementChecked (now (bytes .entry)) (afterFigure (now (bytes .entry)) head at) ⌝ }
+{
+    let read = layers::read_layers(bytes, at, head.s, head.b, 0, 16_777_216, true);
+    let answer = read.answer;
+    let lambda = read.bound;
+    let c = read.size;
+    match answer {
+        HeadsAnswer::Refused(e) => refuse(e),
+        HeadsAnswer::Next(first) => match layers::check_rows(bytes, first, head.n, head.r, head.s, lambda, c) {
+            RowsAnswer::Refused(e) => refuse(e),
+            RowsAnswer::Good => {
+                if head.figure != figure_of(head.s, head.k, head.b, lambda, c) {
+                    return refuse(Refusal::WrongFigure(head.place));
+                }
+                PlacementCheck {
+                    answer: PlacementAnswer::Accepted {
+                        n: head.n,
+                        r: head.r,
+                        s: head.s,
+                        k: head.k,
+                        b: head.b,
+                        figure: head.figure,
+                        at: first,
+                    },
+                    lambda,
+                    c,
+                }
+            }
+        },
+    }
+}
+
+// The check of a placement from the figure on, which starts at `at`.
+fn after_b(bytes: &[u8], n: usize, r: usize, s: usize, k: usize, b: usize, at: usize) -> PlacementCheck
+    requires { ⌜ (1 ≤ s) × (s ≤ r) × (r ≤ 5) × (k ≤ 254) × (b ≤ 4_096) ⌝ }
+    ensures { λ check. ⌜ check
+        ≡ placementChecked (now (bytes .entry)) (afterB (now (bytes .entry)) n r s k b at) ⌝ }
+{
+    let read = number::read_within(bytes, at, 0, b);
+    let NumberRead::Value(figure, next) = read else {
+        return refuse(layers::refusal_of(read));
+    };
+    let head = Head {
+        n,
+        r,
+        s,
+        k,
+        b,
+        figure,
+        place: at,
+    };
+    after_figure(bytes, head, next)
+}
+
+// The check of a placement from b on, which starts at `at`.
+fn after_k(bytes: &[u8], n: usize, r: usize, s: usize, k: usize, at: usize) -> PlacementCheck
+    requires { ⌜ (1 ≤ s) × (s ≤ r) × (r ≤ 5) × (k ≤ 254) ⌝ }
+    ensures { λ check. ⌜ check
+        ≡ placementChecked (now (bytes .entry)) (afterK (now (bytes .entry)) n r s k at) ⌝ }
+{
+    let read = number::read_within(bytes, at, 1, 4_096);
+    let NumberRead::Value(b, next) = read else {
+        return refuse(layers::refusal_of(read));
+    };
+    after_b(bytes, n, r, s, k, b, next)
+}
+
+// The check of a placement from k on, which starts at `at`.
+fn after_s(bytes: &[u8], n: usize, r: usize, s: usize, at: usize) -> PlacementCheck
+    requires { ⌜ (1 ≤ s) × (s ≤ r) × (r ≤ 5) × (1 ≤ n) × (n ≤ 255) ⌝ }
+    ensures { λ check. ⌜ check
+        ≡ placementChecked (now (bytes .entry)) (afterS (now (bytes .entry)) n r s at) ⌝ }
+{
+    let read = number::read_within(bytes, at, s, n - 1);
+    let NumberRead::Value(k, next) = read else {
+        return refuse(layers::refusal_of(read));
+    };
+    after_k(bytes, n, r, s, k, next)
+}
+
+// The check of a placement from s on, which starts at `at`.
+fn after_r(bytes: &[u8], n: usize, r: usize, at: usize) -> PlacementCheck
+    requires { ⌜ (r ≤ 5) × (1 ≤ n) × (n ≤ 255) ⌝ }
+    ensures { λ check. ⌜ check ≡ placementChecked (now (bytes .entry)) (afterR (now (bytes .entry)) n r at) ⌝ }
+{
+    let read = number::read_within(bytes, at, 1, r);
+    let NumberRead::Value(s, next) = read else {
+        return refuse(layers::refusal_of(read));
+    };
+    after_s(bytes, n, r, s, next)
+}
+
+// The check of a placement from r on, which starts at `at`.
+fn after_n(bytes: &[u8], n: usize, at: usize) -> PlacementCheck
+    requires { ⌜ (1 ≤ n) × (n ≤ 255) ⌝ }
+    ensures { λ check. ⌜ check ≡ placementChecked (now (bytes .entry)) (afterN (now (bytes .entry)) n at) ⌝ }
+{
+    let read = number::read_within(bytes, at, 2, layers::smaller(5, n));
+    let NumberRead::Value(r, next) = read else {
+        return refuse(layers::refusal_of(read));
+    };
+    after_r(bytes, n, r, next)
+}
+
+// The check of a placement from n on, which starts at `at`.
+fn after_kind(bytes: &[u8], at: usize) -> PlacementCheck
+    ensures { λ check. ⌜ check ≡ placementChecked (now (bytes .entry)) (afterKind (now (bytes .entry)) at) ⌝ }
+{
+    let read = number::read_within(bytes, at, 2, 255);
+    let NumberRead::Value(n, next) = read else {
+        return refuse(layers::refusal_of(read));
+    };
+    after_n(bytes, n, next)
+}
+
+// Checks a placement: its head's numbers in the file's order, then its rows, then its figure.
+pub fn check_placement(bytes: &[u8]) -> PlacementCheck
+    ensures { λ check. ⌜ check ≡ placementChecked (now (bytes .entry)) (checkPlacement (now (bytes .entry))) ⌝ }
+{
+    let read = layers::read_kind(bytes, 2);
+    let NumberRead::Value(_, next) = read else {
+        return refuse(layers::refusal_of(read));
+    };
+    after_kind(bytes, next)
 }
