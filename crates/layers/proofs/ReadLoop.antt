@@ -21,7 +21,7 @@ use Rattle.layers.specs.declared.LayerRead.{LayerRead}
 use Rattle.layers.specs.declared.LayerRead.the-variants.{Numbers, Refused as LayerRefused}
 use Rattle.layers.specs.declared.HeadsAnswer.the-variants.{Next, Refused}
 use Rattle.layers.specs.declared.LayersRead.{LayersRead}
-use Rattle.layers.proofs.Heads.{readWithin-accepted}
+use Rattle.number.proofs.Within.{read-of-readWithin}
 use Rattle.layers.proofs.Readings.{bind-not-read, bind-read}
 
 -- The answers of `read_layer`, over what `read_within` answered.
@@ -66,8 +66,8 @@ unfolding readLayer
 size-le lo hi least room s at e =
     bind-elim (readWithin lo hi s at) _ e λ bound e₁ r₁.
     bind-elim (readWithin least room s (bound .next)) _ r₁ λ size e₂ r₂.
-    let limits = readWithin-accepted least room s (bound .next) e₂ in
-    rw (← accepted-injective r₂) (limits .1 .1)
+    let limits = read-of-readWithin least room s (bound .next) e₂ in
+    rw (← accepted-injective r₂) (limits .2)
 
 -- what was read before, put in front of what is read from here on
 abbrev inFront : List LayerHead → Checked LayerHeads → Checked LayerHeads

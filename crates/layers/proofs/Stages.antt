@@ -12,7 +12,7 @@ use Rattle.number.specs.Answers.{numberRead}
 use Rattle.number.specs.declared.NumberRead.{NumberRead}
 use Rattle.number.specs.declared.NumberRead.the-variants.{Value, Refused as NotRead}
 use Rattle.number.proofs.Reading.{read-next}
-use Rattle.number.proofs.Within.{numberRead-value}
+use Rattle.number.proofs.Within.{numberRead-value, read-of-readWithin}
 use Rattle.layers.specs.Layers.{Layer, LayerHead, LayerHeads, LayerLimits, size, sizes, allRows, headsOf, headNumbers, readKind, readLayers, checkRows, five}
 use Rattle.layers.specs.Answers.{refusalOf, layersRead, arrayHeads, rowsAnswer}
 use Rattle.layers.specs.declared.HeadsAnswer.the-variants.{Next, Refused}
@@ -20,9 +20,9 @@ use Rattle.layers.specs.declared.LayersRead.{LayersRead}
 use Rattle.layers.specs.declared.RowsAnswer.{RowsAnswer}
 use Rattle.layers.specs.declared.RowsAnswer.the-variants.{Good, Refused as RowsRefused}
 use Rattle.layers.proofs.NumbersRead.{Reads, reads-le-length}
-use Rattle.layers.proofs.Heads.{HeadsWithin, fit-le, readKind-accepted, readWithin-accepted, readLayers-accepted}
-use Rattle.layers.proofs.Layouts.{length-allRows}
-use Rattle.layers.proofs.RowsChecked.{RowsTaken, checkRows-accepted, taken-heads}
+use Rattle.layers.proofs.Heads.{HeadsWithin, fit-le, read-of-readKind, reads-of-readLayers}
+use Rattle.layers.proofs.Lengths.{length-allRows}
+use Rattle.layers.proofs.RowsChecked.{RowsTaken, taken-of-checkRows, taken-heads}
 use Rattle.layers.proofs.Readings.{bind-not-read, bind-read}
 use Rattle.layers.proofs.Arrays.{arrayHeads-five}
 
@@ -40,13 +40,13 @@ pub read-limits : (lo hi : ℕ) (s : List ℕ) (at : ℕ) (read : NumberRead) {v
     → read ≡ Value v next → (lo ≤ v) × (v ≤ hi) × (next ≤ length s)
 read-limits lo hi s at read is e =
     let accept = numberRead-value (readWithin lo hi s at) (sym e ∙ is) in
-    let (number, limits) = readWithin-accepted lo hi s at accept in
-    (limits .0, limits .1, read-next s at number .2)
+    let (number, low, high) = read-of-readWithin lo hi s at accept in
+    (low, high, read-next s at number .2)
 
 pub kind-end : (kind : ℕ) (s : List ℕ) (read : NumberRead) {v next : ℕ} → read ≡ numberRead (readKind kind s) → read ≡ Value v next
     → next ≤ length s
 kind-end kind s read is e =
-    read-next s 0 (readKind-accepted kind s (numberRead-value (readKind kind s) (sym e ∙ is))) .2
+    read-next s 0 (read-of-readKind kind s (numberRead-value (readKind kind s) (sym e ∙ is))) .2
 
 -- The layers' numbers were read: their heads, as the arrays have them, and the next place.
 pub record LayersTaken (limits : LayerLimits) (layers room : ℕ) (s : List ℕ) (at : ℕ) (bound size : List ℕ) (first : ℕ) : Type 0 where
@@ -69,7 +69,7 @@ module _ (limits : LayerLimits) (layers room : ℕ) (s : List ℕ) (at : ℕ) (r
       go (accepted h) r a =
           let answers = ap (λ l. l .answer) a in
           let next : h .next ≡ first = cc in
-          let (reads, within) = readLayers-accepted limits layers room s at r in
+          let (reads, within) = reads-of-readLayers limits layers room s at r in
           let bounds = ap (λ l. l .bound) a in
           let szs = ap (λ l. l .size) a in
           record {
@@ -119,7 +119,7 @@ map-sizes (layer ∷ layers) = ap (λ rest. size layer ∷ rest) (map-sizes laye
 
 module _ (n r : ℕ) (heads : List LayerHead) (s : List ℕ) (at : ℕ) {layers : List Layer} (e : checkRows n r heads s at ≡ accepted layers) where
   taken : RowsTaken n r heads s at layers
-  taken = checkRows-accepted n r heads s at e
+  taken = taken-of-checkRows n r heads s at e
 
   pub good-bounds : five (map (λ layer. layer .bound) layers) ≡ five (map (λ head. head .bound) heads)
   good-bounds = rw (map-bounds layers, taken-heads n r heads s at taken)

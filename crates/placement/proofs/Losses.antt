@@ -41,7 +41,7 @@ module _ (s k : ℕ) (lambda c : List ℕ) (lost x : ℕ) (turn : Turn s k lambd
   turn-done b h =
       let e : x ≡ s = omega (arith, turn .inside) in
       let none-left : drop x (arrayHeads s lambda c) ≡ [] =
-          ap (λ i. drop i (arrayHeads s lambda c)) e ∙ drop-arrayHeads-all lambda c s in
+      ap (λ i. drop i (arrayHeads s lambda c)) e ∙ drop-arrayHeads-all lambda c s in
       let all = rw none-left at (turn .same) in
       omega arith
 

@@ -9,9 +9,18 @@ ghost use Rattle.placement.specs.Figure.{figureOf};
 ghost use Rattle.placement.specs.Placement.{checkPlacement};
 ghost use Rattle.placement.specs.Answers.{placementChecked};
 ghost use Rattle.placement.specs.Stages.{
-    placementRefused, HeadLimits, afterKind, afterN, afterR, afterS, afterK, afterB, afterFigure
+  placementRefused,
+  HeadLimits,
+  afterKind,
+  afterN,
+  afterR,
+  afterS,
+  afterK,
+  afterB,
+  afterFigure,
 };
-use layers::{HeadsAnswer, RowsAnswer};
+use layers::HeadsAnswer;
+use layers::RowsAnswer;
 use number::NumberRead;
 use refusal::Refusal;
 
@@ -95,7 +104,15 @@ fn after_figure(bytes: &[u8], head: Head, at: usize) -> PlacementCheck
     let c = read.size;
     match answer {
         HeadsAnswer::Refused(e) => refuse(e),
-        HeadsAnswer::Next(first) => match layers::check_rows(bytes, first, head.n, head.r, head.s, lambda, c) {
+        HeadsAnswer::Next(first) => match layers::check_rows(
+            bytes,
+            first,
+            head.n,
+            head.r,
+            head.s,
+            lambda,
+            c,
+        ) {
             RowsAnswer::Refused(e) => refuse(e),
             RowsAnswer::Good => {
                 if head.figure != figure_of(head.s, head.k, head.b, lambda, c) {
@@ -120,7 +137,15 @@ fn after_figure(bytes: &[u8], head: Head, at: usize) -> PlacementCheck
 }
 
 // The check of a placement from the figure on, which starts at `at`.
-fn after_b(bytes: &[u8], n: usize, r: usize, s: usize, k: usize, b: usize, at: usize) -> PlacementCheck
+fn after_b(
+    bytes: &[u8],
+    n: usize,
+    r: usize,
+    s: usize,
+    k: usize,
+    b: usize,
+    at: usize,
+) -> PlacementCheck
     requires { ⌜ (1 ≤ s) × (s ≤ r) × (r ≤ 5) × (k ≤ 254) × (b ≤ 4_096) ⌝ }
     ensures { λ check. ⌜ check
         ≡ placementChecked (now (bytes .entry)) (afterB (now (bytes .entry)) n r s k b at) ⌝ }
