@@ -3,4 +3,5 @@ pub mod Survivors
 pub mod Accepted
 pub mod Prefix
 pub mod Losses
+pub mod Stages
 pub mod Worked
