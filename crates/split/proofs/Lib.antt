@@ -9,3 +9,7 @@ pub mod LeastLoss
 pub mod NamedCounts
 pub mod Named
 pub mod Bounds
+pub mod Terms
+pub mod Scans
+pub mod Entries
+pub mod RowAbove

@@ -19,13 +19,13 @@ and-false : (a : Bool) → (a && false) ≡ false
 and-false true = refl
 and-false false = refl
 
-refused-test : (m c : ℕ) → m ≡ 0 → 0 < c → (eqb m 0 && ltb 0 c) ≡ true
+pub refused-test : (m c : ℕ) → m ≡ 0 → 0 < c → (eqb m 0 && ltb 0 c) ≡ true
 refused-test m c e h = rw (eq-eqb m 0 e) (lt-ltb 0 c h)
 
-blocks-test : (m c : ℕ) → 0 < m → (eqb m 0 && ltb 0 c) ≡ false
+pub blocks-test : (m c : ℕ) → 0 < m → (eqb m 0 && ltb 0 c) ≡ false
 blocks-test m c h = rw (ne-eqb m 0 (λ e. omega arith)) refl
 
-no-record-test : (m : ℕ) → (eqb m 0 && ltb 0 0) ≡ false
+pub no-record-test : (m : ℕ) → (eqb m 0 && ltb 0 0) ≡ false
 no-record-test m = and-false (eqb m 0)
 
 module _ (layers : List LayerHead) (s k x : ℕ) where

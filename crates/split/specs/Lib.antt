@@ -1,1 +1,3 @@
 pub mod Splits
+pub mod Arrays
+pub mod Table

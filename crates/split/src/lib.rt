@@ -1,1 +1,3 @@
 // Splits of an order over a pack's layers.
+mod loss;
+mod row;
