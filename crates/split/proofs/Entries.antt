@@ -10,6 +10,7 @@ use lib.Seq.{ext-getD, getD-set-same, getD-set-other, getD-append-add, getD-take
 use borrow.Rule.Slice.PartMut.{same-len-mid}
 use Rattle.lists.specs.Lists.{upTo}
 use Rattle.lists.proofs.UpTo.{getD-map-upTo, length-map-upTo}
+use Rattle.split.specs.Table.{part, put}
 
 -- a list whose entries are f 0, f 1, ..
 pub eq-map-upTo : (f : ℕ → ℕ) (l : List ℕ) (n : ℕ) → length l ≡ n → ((i : ℕ) → i < n → getD l i 0 ≡ f i) → l ≡ map f (upTo n)
@@ -32,13 +33,7 @@ pub getD-set-after : (l k : List ℕ) (i v : ℕ) → ((j : ℕ) → i ≤ j →
 getD-set-after l k i v after j g =
     getD-set-other l i j v 0 (λ p. omega arith) ∙ after j (omega arith)
 
--- the k entries of l from place a on, and l with others in their place
-abbrev pub part : (a k : ℕ) → List ℕ → List ℕ
-part a k l = take k (drop a l)
-
-abbrev pub put : (a k : ℕ) (l ys : List ℕ) → List ℕ
-put a k l ys = take a l ++ (ys ++ drop k (drop a l))
-
+-- a part of a list, and a list with a part replaced
 module _ (a k : ℕ) (l : List ℕ) where
   pub length-part : a + k ≤ length l → length (part a k l) ≡ k
   length-part h = length-take-le k (drop a l) (omega (arith, length-drop a l))

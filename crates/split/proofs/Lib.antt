@@ -13,3 +13,4 @@ pub mod Terms
 pub mod Scans
 pub mod Entries
 pub mod RowAbove
+pub mod Copied
