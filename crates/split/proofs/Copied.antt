@@ -7,7 +7,7 @@ use mathlib.Core.List.{List, _++_}
 use lib.ListN.{length, take, drop, length-append}
 use lib.Seq.{take-at}
 use Rattle.split.specs.Table.{part, put, Rising}
-use Rattle.split.proofs.Entries.{length-part}
+use Rattle.split.proofs.Parts.{length-part}
 
 module _ (work : List ℕ) (at w : ℕ) (h : w ≤ at) (g : at + w ≤ length work) where
   -- the row before `at`, as it is lent

@@ -12,5 +12,9 @@ pub mod Bounds
 pub mod Terms
 pub mod Scans
 pub mod Entries
+pub mod Parts
 pub mod RowAbove
 pub mod Copied
+pub mod Congruence
+pub mod TableRows
+pub mod Filling

@@ -11,7 +11,8 @@ use Rattle.split.specs.declared.loss.LossTerms.{LossTerms}
 use Rattle.split.specs.Splits.{least}
 use Rattle.split.specs.Table.{termLoss, sumAt, rowAbove, Rising, part, put}
 use Rattle.split.proofs.Scans.{leastFrom, leastFrom-zero, leastFrom-suc, leastFrom-skip, leastFrom-least}
-use Rattle.split.proofs.Entries.{eq-map-upTo, length-part, getD-part, length-put, getD-put}
+use Rattle.split.proofs.Entries.{eq-map-upTo}
+use Rattle.split.proofs.Parts.{length-part, getD-part, length-put, getD-put}
 
 -- the counts from c on were tried, and `last` is what c records cost
 pub record RowFrom (t : LossTerms) (below : List ℕ) (c last : ℕ) (out : List ℕ) : Type 0 where

@@ -1,5 +1,16 @@
+-- `table::fill` meets its contract. The loop's invariant: the rows before row `x` are filled. Assumes nothing.
+use Prim.Native.Nat.{ℕ, suc, _+_, _*_, _≤_, _<_, _-_}
+use native.Mathlib.Nat.{sub-zero}
+use native.Mathlib.Numerals.{add-one}
+use mathlib.Core.Path.{_≡_, refl, sym, ap, _∙_}
+use lib.ListN.{length}
 use native.Mathlib.Omega.{arith}
 use borrow.Author.Needs.{needs}
+use Rattle.split.specs.Arrays.{arrayHeads}
+use Rattle.split.specs.Table.{Filled, put}
+use Rattle.split.proofs.Terms.{terms-limits}
+use Rattle.split.proofs.TableRows.{rising-tableRow}
+use Rattle.split.proofs.Filling.{row-end, le-mul-row, row-fits, length-first-row, rows-fit, filled-lowest, filled-below, filled-next, filled-here, filled-since}
 use Rattle.split.proofs.table.fill.Statement.{statement}
 use Rattle.split.proofs.table.fill.Tie as tie
 use Rattle.split.proofs.table.fill.Reads as reads
@@ -9,10 +20,12 @@ use Rattle.split.proofs.row.lowest_row.Reads as lowest-row-reads
 use Rattle.split.proofs.table.raise_row.Reads as raise-row-reads
 
 abbrev Inv-loop : tie.InvT-loop
-Inv-loop mu m s k b work₀ w x₀ work x = ?
+Inv-loop mu m s k b work₀ w x₀ work x =
+    (1 ≤ x) × (x ≤ s) × (s * w ≤ length work₀) × Filled (arrayHeads mu m) s k w x work₀ work
 
 abbrev μ-loop : tie.MeasureT-loop
-μ-loop mu m s k b work₀ w x₀ work x = ?
+μ-loop mu m s k b work₀ w x₀ work x =
+    s - x
 
 -- src/table.rt:41:13
 add-w : tie.Need-add-w Inv-loop μ-loop
@@ -28,55 +41,113 @@ part-lowest-row-start c = search needs
 
 -- src/table.rt:42:16
 part-lowest-row-end : tie.Need-part-lowest-row-end Inv-loop μ-loop
-part-lowest-row-end c = search needs
+part-lowest-row-end c = let s = c .before in row-fits (s .args .s) (s .args .b) _ (s .pre .0 .s-pos) (s .pre .1)
 
 -- src/table.rt:42:33
 terms-requires : tie.Need-terms-requires Inv-loop μ-loop
-terms-requires c κs = search needs
+terms-requires c κs =
+    let l = c .before .before .pre .0 in
+    (l .s-pos, l .s-le, l .s-le-k, l .k-le)
 
 -- src/table.rt:42:5
 lowest-row-requires : tie.Need-lowest-row-requires Inv-loop μ-loop
-lowest-row-requires c κs = search needs
+lowest-row-requires c κs =
+    let s = c .before .before .before in
+    let l = s .pre .0 in
+    let limits = terms-limits (s .args .mu) (s .args .m) (s .args .s) (s .args .k) 0 (l .s-pos) (l .s-le) (l .s-le-k) (l .k-le) (l .mu-le 0) (l .m-le 0) in
+    (rw (c .terms .ensures) limits, length-first-row (s .args .b) (s .args .work .now) (l .b-le))
 
 -- src/table.rt:44:5
+-- where the loop begins row 0 is filled
+lowest-filled : (c : tie.After-slice-known2 Inv-loop μ-loop)
+    → let s = c .before .before .before .before .before .before in
+    Filled (arrayHeads (s .args .mu) (s .args .m)) (s .args .s) (s .args .k) (s .args .b + 1) 1 (s .args .work .now)
+    (put 0 (s .args .b + 1 - 0) (s .args .work .now) (c .before .before .lowest-row .last .0))
+lowest-filled c =
+    let s = c .before .before .before .before .before .before in
+    filled-lowest (arrayHeads (s .args .mu) (s .args .m)) (s .args .s) (s .args .k) (s .args .b + 1) (s .args .work .now)
+    (c .before .before .lowest-row .last .0) (c .before .before .before .terms .result)
+    (rows-fit (s .args .s) (s .args .b) _ (s .pre .1)) (s .pre .0 .s-pos) (omega (arith, s .pre .0 .b-le))
+    (c .before .before .before .terms .ensures) (c .before .before .lowest-row .ensures)
+
 loop-holds : tie.Need-loop-holds Inv-loop μ-loop
-loop-holds c = search needs
+loop-holds c =
+    let s = c .before .before .before .before .before .before in
+    let f = lowest-filled c in
+    let q = rows-fit (s .args .s) (s .args .b) (length (s .args .work .now)) (s .pre .1) in
+    (omega arith, s .pre .0 .s-pos, rw (f .same-length) q, filled-here _ _ _ _ 1 (s .args .work .now) _ f)
 
 -- src/table.rt:44:11
 add-loop : tie.Need-add-loop Inv-loop μ-loop
-add-loop c = search needs
+add-loop c = let h = c .before .before .before .before .before .before .before .pre .0 .s-le in omega (arith, c .loop .inv .1)
 
 -- src/table.rt:45:25
 mul-raise-row : tie.Need-mul-raise-row Inv-loop μ-loop
-mul-raise-row c = search needs
+mul-raise-row c =
+    let s = c .before .before .before .before .before .before .before .before .before in
+    let l = c .before .before .loop in
+    let e = lowest-filled (c .before .before .before) .same-length in
+    let h = row-end (s .args .s) (s .args .b + 1) (l .x) (omega (arith, c .before .loop-test .taken)) in
+    let fits = rows-fit (s .args .s) (s .args .b) (length (s .args .work .now)) (s .pre .1) in
+    omega (arith, s .good)
 
 -- src/table.rt:45:35
 terms-requires-2 : tie.Need-terms-requires-2 Inv-loop μ-loop
-terms-requires-2 c κs = search needs
+terms-requires-2 c κs =
+    let l = c .before .before .before .before .before .before .before .before .before .pre .0 in
+    (omega (arith, c .before .loop-test .taken), l .s-le, l .s-le-k, l .k-le)
 
 -- src/table.rt:45:9
 raise-row-requires : tie.Need-raise-row-requires Inv-loop μ-loop
-raise-row-requires c κs = search needs
+raise-row-requires c κs =
+    let s = c .before .before .before .before .before .before .before .before .before .before in
+    let l = c .before .before .before .loop in
+    let limit = s .pre .0 in
+    let below : l .x < s .args .s = omega (arith, c .before .before .loop-test .taken) in
+    let heads = arrayHeads (s .args .mu) (s .args .m) in
+    let limits = terms-limits (s .args .mu) (s .args .m) (s .args .s) (s .args .k) (l .x) below (limit .s-le) (limit .s-le-k) (limit .k-le) (limit .mu-le (l .x)) (limit .m-le (l .x)) in
+    let h = row-end (s .args .s) (s .args .b + 1) (l .x) below in
+    let same = l .inv .3 .same-length in
+    let fits = l .inv .2 in (
+      (rw (c .terms2 .ensures) limits, omega (arith, limit .b-le), le-mul-row (s .args .b + 1) (l .x) (l .inv .0), omega arith),
+      rw (filled-below heads (s .args .s) (s .args .k) (s .args .b + 1) (l .x) _ (l .work) (l .inv .0) (l .inv .3))
+      (rising-tableRow heads (s .args .s) (s .args .k) (s .args .b + 1) (l .x - 1)),
+    )
 
 -- src/table.rt:46:9
 add-x : tie.Need-add-x Inv-loop μ-loop
-add-x c = search needs
+add-x c = let h = c .before .before .before .before .before .before .before .before .before .before .before .before .before .pre .0 .s-le in omega (arith, c .before .before .before .before .before .before .loop .inv .1)
 
 -- src/table.rt:44:5
 loop-less : tie.Need-loop-less Inv-loop μ-loop
-loop-less c = search needs
+loop-less c = omega arith
 
 -- src/table.rt:44:5
 loop-again : tie.Need-loop-again Inv-loop μ-loop
-loop-again c = search needs
+loop-again c =
+    let s = c .before .before .before .before .before .before .before .before .before .before .before .before .before in
+    let l = c .before .before .before .before .before .before .loop in
+    let below : l .x < s .args .s = omega (arith, c .before .before .before .before .before .loop-test .taken) in
+    let heads = arrayHeads (s .args .mu) (s .args .m) in
+    let f = filled-next heads (s .args .s) (s .args .k) (s .args .b + 1) (l .x) _ (l .work) (c .before .before .before .terms2 .result)
+        (l .inv .2) (l .inv .0) below (c .before .before .before .terms2 .ensures) (l .inv .3)
+    in (
+      omega arith,
+      omega arith,
+      l .inv .2,
+      rw (c .before .before .raise-row .ensures) f,
+    )
 
 -- src/table.rt:37:1
 same-length : tie.Need-same-length Inv-loop μ-loop
-same-length c = search needs
+same-length c = c .before .loop .inv .3 .same-length ∙ lowest-filled (c .before .before) .same-length
 
 -- src/table.rt:37:1
 returns : tie.Need-returns Inv-loop μ-loop
-returns c = search needs
+returns c =
+    let s = c .before .before .before .before .before .before .before .before in
+    let l = c .before .loop in
+    rw (← add-one) (filled-since _ _ _ _ 1 (l .x) (s .args .s - 1) (s .args .work .now) _ (l .work) (lowest-filled (c .before .before)) (l .inv .3) (omega arith))
 
 pub fill-spec : {M : Type 1} → statement M
 fill-spec =
