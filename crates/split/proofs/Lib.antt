@@ -18,3 +18,4 @@ pub mod Copied
 pub mod Congruence
 pub mod TableRows
 pub mod Filling
+pub mod Choosing

@@ -1,5 +1,15 @@
+-- `choose_counts` meets its contract. The loop's invariant: the counts above layer `x` are chosen. Assumes nothing.
+use Prim.Native.Nat.{ℕ, suc, _+_, _*_, _≤_, _<_, _-_}
+use native.Mathlib.Numerals.{add-one}
+use mathlib.Core.Path.{_≡_, refl, sym, ap, _∙_}
+use lib.ListN.{length}
 use native.Mathlib.Omega.{arith}
 use borrow.Author.Needs.{needs}
+use Rattle.split.specs.Arrays.{arrayHeads}
+use Rattle.split.specs.Splits.{bestCount}
+use Rattle.split.proofs.Terms.{terms-limits}
+use Rattle.split.proofs.Filling.{row-end, rows-fit}
+use Rattle.split.proofs.Choosing.{Chosen, chosen-none, chosen-next, chosen-all, best-le, rising-lentBelow, length-lentBelow, best-lentBelow}
 use Rattle.split.proofs.choose_counts.Statement.{statement}
 use Rattle.split.proofs.choose_counts.Tie as tie
 use Rattle.split.proofs.choose_counts.Reads as reads
@@ -9,10 +19,12 @@ use Rattle.split.proofs.row.best_count.Reads as best-count-reads
 use Rattle.split.proofs.table.fill.Reads as fill-reads
 
 abbrev Inv-loop : tie.InvT-loop
-Inv-loop mu m s k b work w counts₀ left₀ x₀ counts left x = ?
+Inv-loop mu m s k b work w counts₀ left₀ x₀ counts left x =
+    Chosen (arrayHeads mu m) s k b x left counts
 
 abbrev μ-loop : tie.MeasureT-loop
-μ-loop mu m s k b work w counts₀ left₀ x₀ counts left x = ?
+μ-loop mu m s k b work w counts₀ left₀ x₀ counts left x =
+    x
 
 -- src/lib.rt:25:5
 fill-requires : tie.Need-fill-requires Inv-loop μ-loop
@@ -28,23 +40,35 @@ sub-x c = search needs
 
 -- src/lib.rt:30:5
 loop-holds : tie.Need-loop-holds Inv-loop μ-loop
-loop-holds c = search needs
+loop-holds c =
+    let s = c .before .before .before .before .before in
+    chosen-none (arrayHeads (s .args .mu) (s .args .m)) (s .args .s) (s .args .k) (s .args .b) (s .pre .0 .s-pos) (s .pre .0 .s-le)
 
 -- src/lib.rt:31:21
 sub-from : tie.Need-sub-from Inv-loop μ-loop
 sub-from c = search needs
 
+-- in a turn the row below layer `x` ends within the working slice
+row-within : (c : tie.In-loop Inv-loop μ-loop)
+    → (c .before .loop .x - 1) * (c .before .before .before .before .before .before .before .args .b + 1) + (c .before .before .before .before .before .before .before .args .b + 1) ≤ length (c .before .before .before .before .before .before .before .args .work .now)
+row-within c =
+    let s = c .before .before .before .before .before .before .before in
+    let below = c .before .loop .inv .x-lt in
+    let h = row-end (s .args .s) (s .args .b + 1) (c .before .loop .x - 1) (omega arith) in
+    let fits = rows-fit (s .args .s) (s .args .b) (length (s .args .work .now)) (s .pre .1) in
+    omega arith
+
 -- src/lib.rt:31:20
 mul-from : tie.Need-mul-from Inv-loop μ-loop
-mul-from c = search needs
+mul-from c = let h = row-within c in omega (arith, c .before .before .before .before .before .before .before .good)
 
 -- src/lib.rt:32:19
 add-end : tie.Need-add-end Inv-loop μ-loop
-add-end c = search needs
+add-end c = let h = row-within c in omega (arith, c .before .before .before .before .before .before .before .good)
 
 -- src/lib.rt:33:28
 mul-best-count : tie.Need-mul-best-count Inv-loop μ-loop
-mul-best-count c = search needs
+mul-best-count c = let h = row-within c in omega (arith, c .before .before .before .before .before .before .before .good)
 
 -- src/lib.rt:33:28
 sub-best-count : tie.Need-sub-best-count Inv-loop μ-loop
@@ -56,27 +80,60 @@ part-best-count-start c = search needs
 
 -- src/lib.rt:33:28
 part-best-count-end : tie.Need-part-best-count-end Inv-loop μ-loop
-part-best-count-end c = search needs
+part-best-count-end c =
+    let h = row-within (c .before) in
+    let e = c .before .before .before .before .before .fill .ensures .same-length in
+    omega arith
 
 -- src/lib.rt:33:46
 terms-requires : tie.Need-terms-requires Inv-loop μ-loop
-terms-requires c κs = search needs
+terms-requires c κs =
+    let l = c .before .before .before .before .before .before .before .before .before .pre .0 in
+    (c .before .before .before .loop .inv .x-lt, l .s-le, l .s-le-k, l .k-le)
 
 -- src/lib.rt:33:13
 best-count-requires : tie.Need-best-count-requires Inv-loop μ-loop
-best-count-requires c κs = search needs
+best-count-requires c κs =
+    let s = c .before .before .before .before .before .before .before .before .before .before in
+    let l = c .before .before .before .before .loop in
+    let limit = s .pre .0 in
+    let turn = c .before .before .before .loop-test .taken in
+    let filled = c .before .before .before .before .before .before .before .fill .ensures in
+    let limits = terms-limits (s .args .mu) (s .args .m) (s .args .s) (s .args .k) (l .x) (l .inv .x-lt) (limit .s-le) (limit .s-le-k) (limit .k-le) (limit .mu-le (l .x)) (limit .m-le (l .x)) in
+    let n = length-lentBelow (arrayHeads (s .args .mu) (s .args .m)) (s .args .s) (s .args .k) (s .args .b) (l .x) (s .args .work .now) _ filled turn (l .inv .x-lt) in
+    let fits = l .inv .left-le in (
+      rw (c .terms .ensures) limits,
+      rising-lentBelow (arrayHeads (s .args .mu) (s .args .m)) (s .args .s) (s .args .k) (s .args .b) (l .x) (s .args .work .now) _ filled turn (l .inv .x-lt),
+      omega arith,
+      omega (arith, limit .b-le),
+    )
+
+-- the count is the definition's
+best : (c : tie.After-best-count Inv-loop μ-loop)
+    → let s = c .before .before .before .before .before .before .before .before .before .before .before in
+    c .best-count .result ≡ bestCount (arrayHeads (s .args .mu) (s .args .m)) (s .args .s) (s .args .k) (c .before .before .before .before .before .loop .x) (c .before .before .before .before .before .loop .left)
+best c =
+    let s = c .before .before .before .before .before .before .before .before .before .before .before in
+    let l = c .before .before .before .before .before .loop in
+    c .best-count .ensures
+    ∙ best-lentBelow (arrayHeads (s .args .mu) (s .args .m)) (s .args .s) (s .args .k) (s .args .b) (l .x) (s .args .work .now) _
+    (c .before .before .before .before .before .before .before .before .fill .ensures) (c .before .before .before .before .loop-test .taken) (l .inv .x-lt)
+    (c .before .terms .result) (l .left) (c .before .terms .ensures) (l .inv .left-le)
 
 -- src/lib.rt:34:9
 mul-counts : tie.Need-mul-counts Inv-loop μ-loop
-mul-counts c = search needs
+mul-counts c = let h = c .before .before .before .before .before .loop .inv .x-lt in omega (arith, c .before .before .before .before .before .before .before .before .before .before .before .pre .0 .s-le)
 
 -- src/lib.rt:34:9
 array-write-counts : tie.Need-array-write-counts Inv-loop μ-loop
-array-write-counts c = search needs
+array-write-counts c = let h = c .before .before .before .before .before .loop .inv .x-lt in omega (arith, c .before .before .before .before .before .before .before .before .before .before .before .pre .0 .s-le)
 
 -- src/lib.rt:35:9
 sub-left : tie.Need-sub-left Inv-loop μ-loop
-sub-left c = search needs
+sub-left c =
+    let s = c .before .before .before .before .before .before .before .before .before .before .before in
+    let l = c .before .before .before .before .before .loop in
+    best-le (arrayHeads (s .args .mu) (s .args .m)) (s .args .s) (s .args .k) (s .args .b) (l .x) (l .left) (c .best-count .result) (best c)
 
 -- src/lib.rt:36:9
 sub-x-2 : tie.Need-sub-x-2 Inv-loop μ-loop
@@ -84,23 +141,31 @@ sub-x-2 c = search needs
 
 -- src/lib.rt:30:5
 loop-less : tie.Need-loop-less Inv-loop μ-loop
-loop-less c = search needs
+loop-less c = omega arith
 
 -- src/lib.rt:30:5
 loop-again : tie.Need-loop-again Inv-loop μ-loop
-loop-again c = search needs
+loop-again c =
+    let s = c .before .before .before .before .before .before .before .before .before .before .before in
+    let l = c .before .before .before .before .before .loop in
+    chosen-next (arrayHeads (s .args .mu) (s .args .m)) (s .args .s) (s .args .k) (s .args .b) (l .x) (l .left) (l .counts) (c .best-count .result) (c .before .before .before .before .loop-test .taken) (s .pre .0 .s-le) (best c) (l .inv)
 
 -- src/lib.rt:38:5
 array-write-counts-2 : tie.Need-array-write-counts-2 Inv-loop μ-loop
-array-write-counts-2 c = search needs
+array-write-counts-2 c = omega arith
 
 -- src/lib.rt:19:1
 same-length : tie.Need-same-length Inv-loop μ-loop
-same-length c = search needs
+same-length c = c .before .before .before .before .fill .ensures .same-length
 
 -- src/lib.rt:19:1
 returns : tie.Need-returns Inv-loop μ-loop
-returns c = search needs
+returns c =
+    let s = c .before .before .before .before .before .before .before in
+    let l = c .before .loop in
+    let filled = c .before .before .before .before .fill .ensures in
+    let e : l .x ≡ 0 = omega arith in
+    (chosen-all (arrayHeads (s .args .mu) (s .args .m)) (s .args .s) (s .args .k) (s .args .b) (l .left) (l .counts) (omega (arith, s .pre .0 .b-le)) (rw e at (l .inv)), (filled .same-length, filled .rest))
 
 pub choose-counts-spec : {M : Type 1} → statement M
 choose-counts-spec =
