@@ -19,3 +19,4 @@ pub mod Congruence
 pub mod TableRows
 pub mod Filling
 pub mod Choosing
+pub mod Arrays
