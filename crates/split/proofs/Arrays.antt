@@ -10,11 +10,9 @@ use lib.ListN.{length, getD, take, replicate, getD-replicate, List·getD-append,
 use lib.Seq.{getD-take, getD-append-add, take-nil}
 use lib.Dec.{ltb}
 use borrow.Author.Tests.{ltb-true, ltb-false}
-use Rattle.lists.specs.Lists.{any, upTo}
-use Rattle.lists.proofs.UpTo.{length-map-upTo}
+use Rattle.lists.specs.Lists.{any}
 use Rattle.binomial.specs.Choose.{choose}
 use Rattle.layers.specs.Layers.{LayerHead, five}
-use Rattle.split.specs.declared.loss.LossTerms.{LossTerms}
 use Rattle.split.specs.Splits.{layerAt, hasBlock, lossOf, leastLoss, bestCount, namedCounts}
 use Rattle.split.specs.Arrays.{arrayHeads}
 use Rattle.split.specs.Table.{termLoss}

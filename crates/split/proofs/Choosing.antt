@@ -1,12 +1,11 @@
 -- The counts, chosen from the top layer down: those of the layers above x stand in the array, and the layers up to x
 -- share what is left. Assumes nothing.
 use Prim.Native.Nat.{ℕ, zero, suc, _+_, _*_, _-_, _≤_, _<_}
-use native.Mathlib.Nat.{sub-zero, lt-of-lt-of-le}
 use native.Mathlib.Numerals.{add-one}
 use native.Mathlib.Omega.{arith}
 use mathlib.Core.Path.{_≡_, refl, sym, ap, ap₂, _∙_}
 use mathlib.Core.List.{List, [], _∷_, _++_, append-assoc}
-use lib.ListN.{length, getD, take, drop, set, replicate, length-set}
+use lib.ListN.{length, take, drop, set, replicate, length-set}
 use lib.Seq.{take-append-add, drop-cons, drop-set-lt, getD-set-same}
 use Rattle.layers.specs.Layers.{LayerHead, five}
 use Rattle.split.specs.declared.loss.LossTerms.{LossTerms}

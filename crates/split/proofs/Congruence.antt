@@ -3,8 +3,6 @@ use Prim.Native.Nat.{ℕ, zero, suc, _≤_, min, zero-le}
 use native.Mathlib.Nat.{le-refl}
 use native.Mathlib.Omega.{arith}
 use mathlib.Core.Path.{_≡_, refl, ap₂}
-use mathlib.Core.Bool.{cond}
-use lib.Dec.{leb}
 use Rattle.split.specs.Splits.{least, lastLeast}
 
 pub least-congr : (f g : ℕ → ℕ) (top : ℕ) → ((c : ℕ) → c ≤ top → f c ≡ g c) → least f top ≡ least g top

@@ -22,6 +22,7 @@ getD-set-below f l i v h e below j g = go (eq-or-lt-of-le (le-of-lt-suc j i g))
   where
     le-of-lt-suc : (j i : ℕ) → j < i + 1 → j ≤ i
     le-of-lt-suc j i h = omega arith
+
     go : (j ≡ i) ⊎ (j < i) → getD (set l i v) j 0 ≡ f j
     go (inl q) = rw q (getD-set-same l i v 0 h ∙ e)
     go (inr q) = getD-set-other l i j v 0 (λ p. omega arith) ∙ below j q

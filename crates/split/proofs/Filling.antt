@@ -5,15 +5,15 @@ use native.Mathlib.Numerals.{add-one}
 use native.Mathlib.Omega.{arith}
 use mathlib.Core.Path.{_≡_, refl, sym, ap, ap₂, _∙_}
 use mathlib.Core.Logic.{_⊎_, inl, inr}
-use mathlib.Core.List.{List, _++_, map}
-use lib.ListN.{length, drop, length-take}
+use mathlib.Core.List.{List, map}
+use lib.ListN.{length, length-take}
 use Rattle.lists.specs.Lists.{upTo}
 use Rattle.layers.specs.Layers.{LayerHead}
 use Rattle.split.specs.declared.loss.LossTerms.{LossTerms}
 use Rattle.split.specs.Splits.{noSplit}
-use Rattle.split.specs.Table.{termsOf, termLoss, rowAbove, tableRow, part, put, Rising, Filled}
+use Rattle.split.specs.Table.{termsOf, termLoss, rowAbove, tableRow, part, put, Filled}
 use Rattle.split.proofs.Parts.{length-part, length-put, part-put-same, part-put-before, drop-put-after}
-use Rattle.split.proofs.TableRows.{length-tableRow, rising-tableRow, rowAbove-before, lowest-tableRow}
+use Rattle.split.proofs.TableRows.{length-tableRow, rowAbove-before, lowest-tableRow}
 
 -- row x ends within the s rows
 pub row-end : (s w x : ℕ) → x < s → x * w + w ≤ s * w
@@ -40,8 +40,10 @@ module _ (layers : List LayerHead) (s k w : ℕ) where
     where
       n : length row ≡ w
       n = ap length e ∙ length-tableRow layers s k w x
+
       within : x * w + w ≤ length work
       within = let h = f .same-length in let g = row-end s w x below in omega arith
+
       go : (y : ℕ) → (y ≡ x) ⊎ (y < x) → part (y * w) w (put (x * w) w work row) ≡ tableRow layers s k w y
       go y (inl q) = rw q (part-put-same (x * w) w work row within n ∙ e)
       go y (inr l) =

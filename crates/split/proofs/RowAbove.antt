@@ -1,11 +1,11 @@
 -- A row of the table from the row below it, the counts tried from the largest down. Assumes nothing.
-use Prim.Native.Nat.{ℕ, zero, suc, _+_, _-_, _≤_, _<_, min}
+use Prim.Native.Nat.{ℕ, suc, _+_, _-_, _≤_, _<_, min}
 use native.Mathlib.Nat.{le-refl, sub-self, sub-zero, eq-or-lt-of-le}
 use native.Mathlib.Omega.{arith}
-use mathlib.Core.Path.{_≡_, refl, sym, ap, ap₂, _∙_}
+use mathlib.Core.Path.{_≡_, refl, sym, ap, _∙_}
 use mathlib.Core.Logic.{_⊎_, inl, inr}
-use mathlib.Core.List.{List, _++_}
-use lib.ListN.{length, getD, take, drop, set, length-set}
+use mathlib.Core.List.{List}
+use lib.ListN.{length, getD, set, length-set}
 use lib.Seq.{getD-set-same, getD-set-other}
 use Rattle.split.specs.declared.loss.LossTerms.{LossTerms}
 use Rattle.split.specs.Splits.{least}
@@ -36,8 +36,8 @@ module _ (t : LossTerms) (below : List ℕ) where
   row-all {last} {out} s =
       eq-map-upTo (λ b. least (sumAt t below b) b) out (length below) (s .same)
       (λ j h. s .entries j (omega arith) h
-          ∙ ap (leastFrom (sumAt t below j) 0) (sub-zero j)
-          ∙ leastFrom-least (sumAt t below j) j)
+      ∙ ap (leastFrom (sumAt t below j) 0) (sub-zero j)
+      ∙ leastFrom-least (sumAt t below j) j)
 
   -- c records and no others
   entry-self : (c : ℕ) → termLoss t c + getD below 0 0 ≡ leastFrom (sumAt t below c) c (c - c)
@@ -115,6 +115,7 @@ module _ (t : LossTerms) (below : List ℕ) where
             (rw q at (getD-put c′ rest stored low (j - c′) (omega arith) (omega arith)))
             ∙ lowered (j - c′) (omega arith)
             ∙ ap (min (cost + getD below (j - c′) 0)) (getD-part c′ rest stored (j - c′) (omega arith) ∙ ap (λ i. getD stored i 0) q)
+
         go : (j : ℕ) → (c′ ≡ j) ⊎ (c′ < j) → j < length below
             → getD (put c′ rest stored low) j 0 ≡ min (cost + getD below (j - c′) 0) (getD stored j 0)
             → getD (put c′ rest stored low) j 0 ≡ leastFrom (sumAt t below j) c′ (j - c′)

@@ -1,13 +1,12 @@
 -- The least and the last place where it is taken, found by a scan: upwards one place at a time, or from any place on.
 -- Assumes nothing.
 use Prim.Native.Nat.{ℕ, zero, suc, _+_, _≤_, _<_, min, zero-le}
-use native.Mathlib.Nat.{le-refl, le-antisymm, zero-add, min-eq-left, min-eq-right, le-of-lt, eq-or-lt-of-le}
+use native.Mathlib.Nat.{le-refl, le-antisymm, min-eq-left, min-eq-right, le-of-lt, eq-or-lt-of-le}
 use native.Mathlib.Omega.{arith}
 use mathlib.Core.Path.{_≡_, refl, sym, ap, _∙_}
 use mathlib.Core.Logic.{_⊎_, inl, inr}
 use mathlib.Core.Bool.{cond}
 use native.Mathlib.Numerals.{add-one}
-use lib.Dec.{leb}
 use borrow.Author.Tests.{le-leb, lt-leb}
 use Rattle.split.specs.Splits.{least, lastLeast}
 use Rattle.split.proofs.Least.{least-le, le-least}

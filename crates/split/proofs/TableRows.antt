@@ -10,7 +10,7 @@ use borrow.Author.Tests.{ltb-true, ltb-false}
 use Rattle.lists.specs.Lists.{upTo}
 use Rattle.lists.proofs.UpTo.{getD-map-upTo, length-map-upTo, map-upTo-congr}
 use Rattle.layers.specs.Layers.{LayerHead}
-use Rattle.split.specs.Splits.{noSplit, lossOf, leastLoss, least, lastLeast, bestCount}
+use Rattle.split.specs.Splits.{noSplit, leastLoss, least, lastLeast, bestCount}
 use Rattle.split.specs.Table.{termsOf, termLoss, sumAt, rowAbove, tableRow, Rising}
 use Rattle.split.proofs.Terms.{lossOf-termLoss}
 use Rattle.split.proofs.Congruence.{least-congr, lastLeast-congr}

@@ -1,13 +1,12 @@
 -- A layer's losses from its four numbers: they are those of the definition, and no product wraps. Assumes nothing.
-use Prim.Native.Nat.{ℕ, suc, _+_, _*_, _-_, _/_, _≤_, _<_, _^_, min}
+use Prim.Native.Nat.{ℕ, suc, _+_, _*_, _/_, _≤_, _<_, _^_, min}
 use native.Mathlib.Nat.{le-refl, le-trans, lt-of-le-of-lt, mul-le-mul, le-of-lt}
 use native.Mathlib.Omega.{arith}
-use mathlib.Core.Path.{_≡_, refl, sym, ap, _∙_}
+use mathlib.Core.Path.{_≡_, refl, ap, _∙_}
 use mathlib.Core.Bool.{Bool, true, false, cond, _&&_}
 use mathlib.Core.List.{List}
 use lib.ListN.{getD}
 use lib.Dec.{ltb, eqb, lit<}
-use Rattle.lists.specs.Lists.{upTo}
 use Rattle.lists.proofs.UpTo.{getD-map-upTo}
 use native.Mathlib.Numerals.{add-one}
 use Rattle.binomial.specs.Choose.{choose}

@@ -16,7 +16,14 @@ mod table;
 
 // The counts of the named split, in the layers' order, 0 from layer s on. The first s × (b+1) entries of `work` are free
 // afterwards, the others are as they were.
-pub fn choose_counts(mu: [usize; 5], m: [usize; 5], s: usize, k: usize, b: usize, work: &mut [u16]) -> [usize; 5]
+pub fn choose_counts(
+    mu: [usize; 5],
+    m: [usize; 5],
+    s: usize,
+    k: usize,
+    b: usize,
+    work: &mut [u16],
+) -> [usize; 5]
     requires { ⌜ Limits mu m s k b × (s * suc b ≤ length (now work)) ⌝ }
     ensures counts { λ r. ⌜ r ≡ five (namedCounts (arrayHeads mu m) s k s b) ⌝ }
     ensures same_length { λ _. ⌜ length (now (work .exit)) ≡ length (now (work .entry)) ⌝ }

@@ -1,7 +1,6 @@
 -- `choose_counts` meets its contract. The loop's invariant: the counts above layer `x` are chosen. Assumes nothing.
-use Prim.Native.Nat.{ℕ, suc, _+_, _*_, _≤_, _<_, _-_}
-use native.Mathlib.Numerals.{add-one}
-use mathlib.Core.Path.{_≡_, refl, sym, ap, _∙_}
+use Prim.Native.Nat.{_+_, _*_, _≤_, _-_}
+use mathlib.Core.Path.{_≡_, _∙_}
 use lib.ListN.{length}
 use native.Mathlib.Omega.{arith}
 use borrow.Author.Needs.{needs}
@@ -12,11 +11,6 @@ use Rattle.split.proofs.Filling.{row-end, rows-fit}
 use Rattle.split.proofs.Choosing.{Chosen, chosen-none, chosen-next, chosen-all, best-le, rising-lentBelow, length-lentBelow, best-lentBelow}
 use Rattle.split.proofs.choose_counts.Statement.{statement}
 use Rattle.split.proofs.choose_counts.Tie as tie
-use Rattle.split.proofs.choose_counts.Reads as reads
-use Rattle.split.proofs.choose_counts.Lts as lts
-use Rattle.split.proofs.loss.terms.Reads as terms-reads
-use Rattle.split.proofs.row.best_count.Reads as best-count-reads
-use Rattle.split.proofs.table.fill.Reads as fill-reads
 
 abbrev Inv-loop : tie.InvT-loop
 Inv-loop mu m s k b work w counts₀ left₀ x₀ counts left x =
@@ -26,25 +20,20 @@ abbrev μ-loop : tie.MeasureT-loop
 μ-loop mu m s k b work w counts₀ left₀ x₀ counts left x =
     x
 
--- src/lib.rt:25:5
 fill-requires : tie.Need-fill-requires Inv-loop μ-loop
 fill-requires c κs = search needs
 
--- src/lib.rt:26:13
 add-w : tie.Need-add-w Inv-loop μ-loop
 add-w c = search needs
 
--- src/lib.rt:29:17
 sub-x : tie.Need-sub-x Inv-loop μ-loop
 sub-x c = search needs
 
--- src/lib.rt:30:5
 loop-holds : tie.Need-loop-holds Inv-loop μ-loop
 loop-holds c =
     let s = c .before .before .before .before .before in
     chosen-none (arrayHeads (s .args .mu) (s .args .m)) (s .args .s) (s .args .k) (s .args .b) (s .pre .0 .s-pos) (s .pre .0 .s-le)
 
--- src/lib.rt:31:21
 sub-from : tie.Need-sub-from Inv-loop μ-loop
 sub-from c = search needs
 
@@ -58,40 +47,32 @@ row-within c =
     let fits = rows-fit (s .args .s) (s .args .b) (length (s .args .work .now)) (s .pre .1) in
     omega arith
 
--- src/lib.rt:31:20
 mul-from : tie.Need-mul-from Inv-loop μ-loop
 mul-from c = let h = row-within c in omega (arith, c .before .before .before .before .before .before .before .good)
 
--- src/lib.rt:32:19
 add-end : tie.Need-add-end Inv-loop μ-loop
 add-end c = let h = row-within c in omega (arith, c .before .before .before .before .before .before .before .good)
 
--- src/lib.rt:33:28
 mul-best-count : tie.Need-mul-best-count Inv-loop μ-loop
 mul-best-count c = let h = row-within c in omega (arith, c .before .before .before .before .before .before .before .good)
 
--- src/lib.rt:33:28
 sub-best-count : tie.Need-sub-best-count Inv-loop μ-loop
 sub-best-count c = search needs
 
--- src/lib.rt:33:28
 part-best-count-start : tie.Need-part-best-count-start Inv-loop μ-loop
 part-best-count-start c = search needs
 
--- src/lib.rt:33:28
 part-best-count-end : tie.Need-part-best-count-end Inv-loop μ-loop
 part-best-count-end c =
     let h = row-within (c .before) in
     let e = c .before .before .before .before .before .fill .ensures .same-length in
     omega arith
 
--- src/lib.rt:33:46
 terms-requires : tie.Need-terms-requires Inv-loop μ-loop
 terms-requires c κs =
     let l = c .before .before .before .before .before .before .before .before .before .pre .0 in
     (c .before .before .before .loop .inv .x-lt, l .s-le, l .s-le-k, l .k-le)
 
--- src/lib.rt:33:13
 best-count-requires : tie.Need-best-count-requires Inv-loop μ-loop
 best-count-requires c κs =
     let s = c .before .before .before .before .before .before .before .before .before .before in
@@ -120,45 +101,36 @@ best c =
     (c .before .before .before .before .before .before .before .before .fill .ensures) (c .before .before .before .before .loop-test .taken) (l .inv .x-lt)
     (c .before .terms .result) (l .left) (c .before .terms .ensures) (l .inv .left-le)
 
--- src/lib.rt:34:9
 mul-counts : tie.Need-mul-counts Inv-loop μ-loop
 mul-counts c = let h = c .before .before .before .before .before .loop .inv .x-lt in omega (arith, c .before .before .before .before .before .before .before .before .before .before .before .pre .0 .s-le)
 
--- src/lib.rt:34:9
 array-write-counts : tie.Need-array-write-counts Inv-loop μ-loop
 array-write-counts c = let h = c .before .before .before .before .before .loop .inv .x-lt in omega (arith, c .before .before .before .before .before .before .before .before .before .before .before .pre .0 .s-le)
 
--- src/lib.rt:35:9
 sub-left : tie.Need-sub-left Inv-loop μ-loop
 sub-left c =
     let s = c .before .before .before .before .before .before .before .before .before .before .before in
     let l = c .before .before .before .before .before .loop in
     best-le (arrayHeads (s .args .mu) (s .args .m)) (s .args .s) (s .args .k) (s .args .b) (l .x) (l .left) (c .best-count .result) (best c)
 
--- src/lib.rt:36:9
 sub-x-2 : tie.Need-sub-x-2 Inv-loop μ-loop
 sub-x-2 c = search needs
 
--- src/lib.rt:30:5
 loop-less : tie.Need-loop-less Inv-loop μ-loop
 loop-less c = omega arith
 
--- src/lib.rt:30:5
 loop-again : tie.Need-loop-again Inv-loop μ-loop
 loop-again c =
     let s = c .before .before .before .before .before .before .before .before .before .before .before in
     let l = c .before .before .before .before .before .loop in
     chosen-next (arrayHeads (s .args .mu) (s .args .m)) (s .args .s) (s .args .k) (s .args .b) (l .x) (l .left) (l .counts) (c .best-count .result) (c .before .before .before .before .loop-test .taken) (s .pre .0 .s-le) (best c) (l .inv)
 
--- src/lib.rt:38:5
 array-write-counts-2 : tie.Need-array-write-counts-2 Inv-loop μ-loop
 array-write-counts-2 c = omega arith
 
--- src/lib.rt:19:1
 same-length : tie.Need-same-length Inv-loop μ-loop
 same-length c = c .before .before .before .before .fill .ensures .same-length
 
--- src/lib.rt:19:1
 returns : tie.Need-returns Inv-loop μ-loop
 returns c =
     let s = c .before .before .before .before .before .before .before in

@@ -1,62 +1,48 @@
 -- `loss::loss_of` meets its contract: the tests are those of the definition, and no product wraps. Assumes nothing.
-use mathlib.Core.Path.{sym, ap, _∙_}
+use mathlib.Core.Path.{sym, _∙_}
 use native.Mathlib.Omega.{arith}
 use borrow.Author.Needs.{needs}
 use Rattle.split.proofs.Terms.{termLoss-blocks, termLoss-no-blocks, termLoss-zero, lambda-lt, lambda-mul-lt}
 use Rattle.split.proofs.loss.loss_of.Statement.{statement}
 use Rattle.split.proofs.loss.loss_of.Tie as tie
-use Rattle.split.proofs.loss.loss_of.Reads as reads
-use Rattle.split.proofs.loss.loss_of.Lts as lts
-use Rattle.split.proofs.loss.smaller.Reads as smaller-reads
 
--- src/loss.rt:43:13
 returns : tie.Need-returns
 returns c = rw (c .if2 .taken) (sym (termLoss-zero (c .before .before .args .t)))
 
--- src/loss.rt:45:9
 returns-2 : tie.Need-returns-2
 returns-2 c =
     let a = c .before .before .args in
     let e = c .if2 .left in
     sym (termLoss-no-blocks (a .t) (a .c) (c .before .if1 .taken) (omega (arith, e)))
 
--- src/loss.rt:47:24
 sub-copies : tie.Need-sub-copies
 sub-copies c = search needs
 
--- src/loss.rt:47:19
 add-copies : tie.Need-add-copies
 add-copies c = search needs
 
--- src/loss.rt:47:18
 div-copies : tie.Need-div-copies
 div-copies c = search needs
 
--- src/loss.rt:48:16
 mul-smaller : tie.Need-mul-smaller
 mul-smaller c =
     let s = c .before .before in
     record { fits = lambda-lt (s .args .t) (s .pre .0) (s .args .c) (s .pre .1) }
 
--- src/loss.rt:48:16
 mul-smaller-2 : tie.Need-mul-smaller-2
 mul-smaller-2 c =
     let s = c .before .before .before in
     record { fits = lambda-mul-lt (s .args .t) (s .pre .0) (s .args .c) (s .pre .1) }
 
--- src/loss.rt:48:16
 div-smaller : tie.Need-div-smaller
 div-smaller c = search needs
 
--- src/loss.rt:48:5
 smaller-requires : tie.Need-smaller-requires
 smaller-requires c κs = search needs
 
--- src/loss.rt:48:5
 cast-result : tie.Need-cast-result
 cast-result c = search needs
 
--- src/loss.rt:36:1
 returns-3 : tie.Need-returns-3
 returns-3 c =
     let s = c .before .before .before .before .before in

@@ -1,21 +1,17 @@
 -- `row::best_count` meets its contract: `best` is the last least place up to `c`, and `least` what is lost there.
 -- Assumes nothing.
-use Prim.Native.Nat.{ℕ, suc, _+_, _≤_, _<_, _-_}
-use mathlib.Core.Path.{_≡_, refl, sym, ap, ap₂, _∙_}
+use Prim.Native.Nat.{_+_, _≤_, _-_}
+use mathlib.Core.Path.{_≡_, sym, ap, ap₂, _∙_}
 use native.Mathlib.Nat.{sub-zero}
-use native.Mathlib.Numerals.{add-one}
-use lib.ListN.{length, getD}
+use lib.ListN.{getD}
 use native.Mathlib.Omega.{arith}
 use borrow.Author.Needs.{needs}
 use Rattle.split.specs.Splits.{lastLeast}
-use Rattle.split.specs.Table.{termLoss, sumAt}
+use Rattle.split.specs.Table.{sumAt}
 use Rattle.split.proofs.Terms.{termLoss-le-noSplit}
 use Rattle.split.proofs.Scans.{ScanTo, scan-none, scan-taken, scan-left}
 use Rattle.split.proofs.row.best_count.Statement.{statement}
 use Rattle.split.proofs.row.best_count.Tie as tie
-use Rattle.split.proofs.row.best_count.Reads as reads
-use Rattle.split.proofs.row.best_count.Lts as lts
-use Rattle.split.proofs.loss.loss_of.Reads as loss-of-reads
 
 abbrev Inv-loop : tie.InvT-loop
 Inv-loop below t left best₀ least₀ c₀ best least c =
@@ -25,19 +21,15 @@ abbrev μ-loop : tie.MeasureT-loop
 μ-loop below t left best₀ least₀ c₀ best least c =
     left - c
 
--- src/row.rt:70:21
 loss-of-requires : tie.Need-loss-of-requires Inv-loop μ-loop
 loss-of-requires c κs = (c .before .pre .0, omega arith)
 
--- src/row.rt:70:37
 mul-least : tie.Need-mul-least Inv-loop μ-loop
 mul-least c = search needs
 
--- src/row.rt:70:37
 shared-slice-read-least : tie.Need-shared-slice-read-least Inv-loop μ-loop
 shared-slice-read-least c = search needs
 
--- src/row.rt:70:21
 add-least : tie.Need-add-least Inv-loop μ-loop
 add-least c =
     let s = c .before .before .before in
@@ -45,36 +37,29 @@ add-least c =
     let g = termLoss-le-noSplit (s .args .t) 0 (omega arith) in
     omega (arith, c .before .loss-of .ensures)
 
--- src/row.rt:72:5
 loop-holds : tie.Need-loop-holds Inv-loop μ-loop
 loop-holds c =
     let s = c .before .before .before in
     let f = sumAt (s .args .t) (s .args .below .now) (s .args .left) in
     (search needs, scan-none f (ap₂ _+_ (c .before .loss-of .ensures) (ap (λ i. getD (s .args .below .now) i 0) (sym (sub-zero (s .args .left))))))
 
--- src/row.rt:73:9
 add-c : tie.Need-add-c Inv-loop μ-loop
 add-c c = search needs
 
--- src/row.rt:74:20
 loss-of-requires-2 : tie.Need-loss-of-requires-2 Inv-loop μ-loop
 loss-of-requires-2 c κs =
     let s = c .before .before .before .before .before in
     (s .pre .0, omega arith)
 
--- src/row.rt:74:42
 sub-loss : tie.Need-sub-loss Inv-loop μ-loop
 sub-loss c = search needs
 
--- src/row.rt:74:36
 mul-loss : tie.Need-mul-loss Inv-loop μ-loop
 mul-loss c = search needs
 
--- src/row.rt:74:36
 shared-slice-read-loss : tie.Need-shared-slice-read-loss Inv-loop μ-loop
 shared-slice-read-loss c = search needs
 
--- src/row.rt:74:20
 add-loss : tie.Need-add-loss Inv-loop μ-loop
 add-loss c =
     let s = c .before .before .before .before .before .before .before in
@@ -83,33 +68,28 @@ add-loss c =
     let g = termLoss-le-noSplit (s .args .t) (l .c + 1) (omega arith) in
     omega (arith, c .before .loss-of2 .ensures)
 
--- src/row.rt:72:5
 loop-less : tie.Need-loop-less Inv-loop μ-loop
 loop-less c = omega arith
 
--- src/row.rt:72:5
 loop-again : tie.Need-loop-again Inv-loop μ-loop
 loop-again c =
     let s = c .before .before .before .before .before .before .before .before in
     let l = c .before .before .before .before .loop in
     let f = sumAt (s .args .t) (s .args .below .now) (s .args .left) in
     let e = ap (λ n. n + getD (s .args .below .now) (s .args .left - (l .c + 1)) 0) (c .before .before .loss-of2 .ensures) in
-    (omega arith, scan-taken f (l .c) (l .best) (l .least) (l .inv .1) e (c .if1 .taken))
+    (omega arith, scan-taken f (l .c) (l .best) (l .least) (l .inv .1) e (omega (arith, c .if1 .taken)))
 
--- src/row.rt:72:5
 loop-less-2 : tie.Need-loop-less-2 Inv-loop μ-loop
 loop-less-2 c = omega arith
 
--- src/row.rt:72:5
 loop-again-2 : tie.Need-loop-again-2 Inv-loop μ-loop
 loop-again-2 c =
     let s = c .before .before .before .before .before .before .before .before in
     let l = c .before .before .before .before .loop in
     let f = sumAt (s .args .t) (s .args .below .now) (s .args .left) in
     let e = ap (λ n. n + getD (s .args .below .now) (s .args .left - (l .c + 1)) 0) (c .before .before .loss-of2 .ensures) in
-    (omega arith, scan-left f (l .c) (l .best) (l .least) (l .inv .1) e (c .if1 .left))
+    (omega arith, scan-left f (l .c) (l .best) (l .least) (l .inv .1) e (omega (arith, c .if1 .left)))
 
--- src/row.rt:65:1
 returns : tie.Need-returns Inv-loop μ-loop
 returns c =
     let s = c .before .before .before .before .before in

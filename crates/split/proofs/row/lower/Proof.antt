@@ -7,9 +7,6 @@ use borrow.Author.Needs.{needs}
 use Rattle.split.proofs.Entries.{getD-set-below, getD-set-after}
 use Rattle.split.proofs.row.lower.Statement.{statement}
 use Rattle.split.proofs.row.lower.Tie as tie
-use Rattle.split.proofs.row.lower.Reads as reads
-use Rattle.split.proofs.row.lower.Lts as lts
-use Rattle.split.proofs.row.smaller.Reads as smaller-reads
 
 abbrev Inv-loop : tie.InvT-loop
 Inv-loop out₀ below cost i₀ out i =
@@ -21,54 +18,42 @@ abbrev μ-loop : tie.MeasureT-loop
 μ-loop out₀ below cost i₀ out i =
     length out - i
 
--- src/row.rt:38:5
 loop-holds : tie.Need-loop-holds Inv-loop μ-loop
 loop-holds c = (search needs, refl, λ j h. absurd (omega arith), λ j h. refl)
 
--- src/row.rt:39:33
 mul-smaller : tie.Need-mul-smaller Inv-loop μ-loop
 mul-smaller c = omega arith
 
--- src/row.rt:39:33
 shared-slice-read-smaller : tie.Need-shared-slice-read-smaller Inv-loop μ-loop
 shared-slice-read-smaller c = omega arith
 
--- src/row.rt:39:26
 add-smaller : tie.Need-add-smaller Inv-loop μ-loop
 add-smaller c =
     let s = c .before .before .before .before .before in
     let h = s .pre .2 .marked (c .before .before .loop .i) in
     omega arith
 
--- src/row.rt:39:43
 mul-smaller-2 : tie.Need-mul-smaller-2 Inv-loop μ-loop
 mul-smaller-2 c = omega arith
 
--- src/row.rt:39:43
 slice-read-smaller : tie.Need-slice-read-smaller Inv-loop μ-loop
 slice-read-smaller c = search needs
 
--- src/row.rt:39:18
 smaller-requires : tie.Need-smaller-requires Inv-loop μ-loop
 smaller-requires c κs = search needs
 
--- src/row.rt:39:9
 mul-out : tie.Need-mul-out Inv-loop μ-loop
 mul-out c = omega arith
 
--- src/row.rt:39:9
 slice-write-out : tie.Need-slice-write-out Inv-loop μ-loop
 slice-write-out c = search needs
 
--- src/row.rt:40:9
 add-i : tie.Need-add-i Inv-loop μ-loop
 add-i c = omega arith
 
--- src/row.rt:38:5
 loop-less : tie.Need-loop-less Inv-loop μ-loop
 loop-less c = simp length-set (omega arith)
 
--- src/row.rt:38:5
 loop-again : tie.Need-loop-again Inv-loop μ-loop
 loop-again c =
     let l = c .before .before .before .before .loop in
@@ -77,17 +62,15 @@ loop-again c =
       simp length-set (omega arith),
       simp length-set (l .inv .1),
       getD-set-below (λ j. min (a .cost + getD (a .below .now) j 0) (getD (a .out .now) j 0)) (l .out) (l .i) (c .smaller .result)
-      turn
-      (c .smaller .ensures ∙ ap (min (a .cost + getD (a .below .now) (l .i) 0)) (l .inv .3 (l .i) (omega arith)))
-      (l .inv .2),
+          turn
+          (c .smaller .ensures ∙ ap (min (a .cost + getD (a .below .now) (l .i) 0)) (l .inv .3 (l .i) (omega arith)))
+          (l .inv .2),
       getD-set-after (l .out) (a .out .now) (l .i) (c .smaller .result) (l .inv .3),
     )
 
--- src/row.rt:31:1
 same-length : tie.Need-same-length Inv-loop μ-loop
 same-length c = search needs
 
--- src/row.rt:31:1
 returns : tie.Need-returns Inv-loop μ-loop
 returns c =
     let l = c .before .loop in

@@ -1,6 +1,6 @@
 -- `row::lowest_row` meets its contract: the entries before `c` are the losses of so many records. Assumes nothing.
 use Prim.Native.Nat.{ℕ, _≤_, _<_, _-_}
-use mathlib.Core.Path.{_≡_, refl, _∙_}
+use mathlib.Core.Path.{_≡_, refl}
 use lib.ListN.{length, getD, length-set}
 use native.Mathlib.Omega.{arith}
 use borrow.Author.Needs.{needs}
@@ -8,9 +8,6 @@ use Rattle.split.specs.Table.{termLoss}
 use Rattle.split.proofs.Entries.{eq-map-upTo, getD-set-below}
 use Rattle.split.proofs.row.lowest_row.Statement.{statement}
 use Rattle.split.proofs.row.lowest_row.Tie as tie
-use Rattle.split.proofs.row.lowest_row.Reads as reads
-use Rattle.split.proofs.row.lowest_row.Lts as lts
-use Rattle.split.proofs.loss.loss_of.Reads as loss-of-reads
 
 abbrev Inv-loop : tie.InvT-loop
 Inv-loop out₀ t c₀ out c =
@@ -20,45 +17,36 @@ abbrev μ-loop : tie.MeasureT-loop
 μ-loop out₀ t c₀ out c =
     length out - c
 
--- src/row.rt:18:5
 loop-holds : tie.Need-loop-holds Inv-loop μ-loop
 loop-holds c = (search needs, refl, λ j h. absurd (omega arith))
 
--- src/row.rt:19:18
 loss-of-requires : tie.Need-loss-of-requires Inv-loop μ-loop
 loss-of-requires c κs = (c .before .before .before .pre .0, omega (arith, c .before .before .before .pre .1))
 
--- src/row.rt:19:9
 mul-out : tie.Need-mul-out Inv-loop μ-loop
 mul-out c = omega arith
 
--- src/row.rt:19:9
 slice-write-out : tie.Need-slice-write-out Inv-loop μ-loop
 slice-write-out c = search needs
 
--- src/row.rt:20:9
 add-c : tie.Need-add-c Inv-loop μ-loop
 add-c c = omega arith
 
--- src/row.rt:18:5
 loop-less : tie.Need-loop-less Inv-loop μ-loop
 loop-less c = simp length-set (omega arith)
 
--- src/row.rt:18:5
 loop-again : tie.Need-loop-again Inv-loop μ-loop
 loop-again c =
     let l = c .before .before .loop in (
       simp length-set (omega arith),
       simp length-set (l .inv .1),
       getD-set-below (termLoss (c .before .before .before .before .args .t)) (l .out) (l .c) (c .loss-of .result)
-      (c .before .loop-test .taken) (c .loss-of .ensures) (l .inv .2),
+          (c .before .loop-test .taken) (c .loss-of .ensures) (l .inv .2),
     )
 
--- src/row.rt:13:1
 same-length : tie.Need-same-length Inv-loop μ-loop
 same-length c = search needs
 
--- src/row.rt:13:1
 returns : tie.Need-returns Inv-loop μ-loop
 returns c =
     let l = c .before .loop in

@@ -1,17 +1,13 @@
 -- `row::next_row` meets its contract. The loop's invariant: the counts from `c` on were tried. Assumes nothing.
-use Prim.Native.Nat.{ℕ, suc, _+_, _≤_, _<_, _-_}
-use mathlib.Core.Path.{_≡_, refl, sym, ap, _∙_}
-use lib.ListN.{length, getD, length-set, length-take, length-drop}
+use Prim.Native.Nat.{_-_}
+use mathlib.Core.Path.{_≡_}
+use lib.ListN.{length-set, length-take, length-drop}
 use native.Mathlib.Omega.{arith}
 use borrow.Author.Needs.{needs}
 use Rattle.split.proofs.Terms.{termLoss-le-noSplit}
 use Rattle.split.proofs.RowAbove.{RowFrom, row-none, row-all, row-skip, row-lower}
 use Rattle.split.proofs.row.next_row.Statement.{statement}
 use Rattle.split.proofs.row.next_row.Tie as tie
-use Rattle.split.proofs.row.next_row.Reads as reads
-use Rattle.split.proofs.row.next_row.Lts as lts
-use Rattle.split.proofs.loss.loss_of.Reads as loss-of-reads
-use Rattle.split.proofs.row.lower.Reads as lower-reads
 
 abbrev Inv-loop : tie.InvT-loop
 Inv-loop out₀ below t last₀ c₀ out last c = RowFrom t below c last out
@@ -19,27 +15,22 @@ Inv-loop out₀ below t last₀ c₀ out last c = RowFrom t below c last out
 abbrev μ-loop : tie.MeasureT-loop
 μ-loop out₀ below t last₀ c₀ out last c = c
 
--- src/row.rt:52:5
 loop-holds : tie.Need-loop-holds Inv-loop μ-loop
 loop-holds c =
     let s = c .before .before in
     row-none (s .args .t) (s .args .below .now) (s .args .out .now) 0 (s .pre .2)
 
--- src/row.rt:53:9
 sub-c : tie.Need-sub-c Inv-loop μ-loop
 sub-c c = search needs
 
--- src/row.rt:55:9
 loss-of-requires : tie.Need-loss-of-requires Inv-loop μ-loop
 loss-of-requires c κs =
     let s = c .before .before .before .before in
     (s .pre .0, omega arith)
 
--- src/row.rt:56:25
 shared-slice-read-out : tie.Need-shared-slice-read-out Inv-loop μ-loop
 shared-slice-read-out c = omega arith
 
--- src/row.rt:56:18
 add-out : tie.Need-add-out Inv-loop μ-loop
 add-out c =
     let s = c .before .before .before .before .before .before in
@@ -47,43 +38,34 @@ add-out c =
     let g = termLoss-le-noSplit (s .args .t) (c .before .before .before .loop .c - 1) (omega arith) in
     omega (arith, c .before .loss-of .ensures)
 
--- src/row.rt:56:9
 mul-out : tie.Need-mul-out Inv-loop μ-loop
 mul-out c = omega arith
 
--- src/row.rt:56:9
 slice-write-out : tie.Need-slice-write-out Inv-loop μ-loop
 slice-write-out c = omega arith
 
--- src/row.rt:52:5
 loop-less : tie.Need-loop-less Inv-loop μ-loop
 loop-less c = omega arith
 
--- src/row.rt:52:5
 loop-again : tie.Need-loop-again Inv-loop μ-loop
 loop-again c =
     let s = c .before .before .before .before .before .before .before in
     let l = c .before .before .before .before .loop in
     row-skip (s .args .t) (s .args .below .now) (l .c) (l .c - 1) (l .last) (c .before .before .loss-of .result) (l .out) (omega arith)
-    (l .inv) (c .before .before .loss-of .ensures) (s .pre .1) (c .if1 .taken)
+    (l .inv) (c .before .before .loss-of .ensures) (s .pre .1) (omega (arith, c .if1 .taken))
 
--- src/row.rt:60:15
 mul-lower : tie.Need-mul-lower Inv-loop μ-loop
 mul-lower c = omega arith
 
--- src/row.rt:60:15
 sub-lower : tie.Need-sub-lower Inv-loop μ-loop
 sub-lower c = simp length-set (omega arith)
 
--- src/row.rt:60:15
 part-lower-start : tie.Need-part-lower-start Inv-loop μ-loop
 part-lower-start c = simp length-set (omega arith)
 
--- src/row.rt:60:15
 part-lower-end : tie.Need-part-lower-end Inv-loop μ-loop
 part-lower-end c = simp length-set (omega arith)
 
--- src/row.rt:60:9
 lower-requires : tie.Need-lower-requires Inv-loop μ-loop
 lower-requires c κs =
     let s = c .before .before .before .before .before .before .before .before in
@@ -91,11 +73,9 @@ lower-requires c κs =
     let g = termLoss-le-noSplit (s .args .t) (l .c - 1) (omega arith) in
     (simp (length-take, length-drop, length-set) (omega arith), omega (arith, c .before .before .before .loss-of .ensures), s .pre .1)
 
--- src/row.rt:52:5
 loop-less-2 : tie.Need-loop-less-2 Inv-loop μ-loop
 loop-less-2 c = omega arith
 
--- src/row.rt:52:5
 loop-again-2 : tie.Need-loop-again-2 Inv-loop μ-loop
 loop-again-2 c =
     let s = c .before .before .before .before .before .before .before .before .before .before .before in
@@ -105,11 +85,9 @@ loop-again-2 c =
     row-lower (s .args .t) (s .args .below .now) (l .c) (l .c - 1) (l .last) (paid .result) (l .out) (omega arith)
     (l .inv) (paid .ensures) (lowered .last .0) (lowered .kept .0) (lowered .ensures)
 
--- src/row.rt:46:1
 same-length : tie.Need-same-length Inv-loop μ-loop
 same-length c = omega arith
 
--- src/row.rt:46:1
 returns : tie.Need-returns Inv-loop μ-loop
 returns c =
     let s = c .before .before .before .before in

@@ -8,8 +8,6 @@ use borrow.Author.Needs.{needs}
 use Rattle.split.proofs.Entries.{getD-set-below}
 use Rattle.split.proofs.table.copy_row.Statement.{statement}
 use Rattle.split.proofs.table.copy_row.Tie as tie
-use Rattle.split.proofs.table.copy_row.Reads as reads
-use Rattle.split.proofs.table.copy_row.Lts as lts
 
 abbrev Inv-loop : tie.InvT-loop
 Inv-loop out₀ row i₀ out i =
@@ -19,35 +17,27 @@ abbrev μ-loop : tie.MeasureT-loop
 μ-loop out₀ row i₀ out i =
     length out - i
 
--- src/table.rt:17:5
 loop-holds : tie.Need-loop-holds Inv-loop μ-loop
 loop-holds c = (search needs, refl, λ j h. absurd (omega arith))
 
--- src/table.rt:18:18
 mul-out : tie.Need-mul-out Inv-loop μ-loop
 mul-out c = search needs
 
--- src/table.rt:18:18
 shared-slice-read-out : tie.Need-shared-slice-read-out Inv-loop μ-loop
 shared-slice-read-out c = search needs
 
--- src/table.rt:18:9
 mul-out-2 : tie.Need-mul-out-2 Inv-loop μ-loop
 mul-out-2 c = search needs
 
--- src/table.rt:18:9
 slice-write-out : tie.Need-slice-write-out Inv-loop μ-loop
 slice-write-out c = search needs
 
--- src/table.rt:19:9
 add-i : tie.Need-add-i Inv-loop μ-loop
 add-i c = search needs
 
--- src/table.rt:17:5
 loop-less : tie.Need-loop-less Inv-loop μ-loop
 loop-less c = simp length-set (omega arith)
 
--- src/table.rt:17:5
 loop-again : tie.Need-loop-again Inv-loop μ-loop
 loop-again c =
     let l = c .before .before .loop in
@@ -57,11 +47,9 @@ loop-again c =
       getD-set-below (λ j. getD row j 0) (l .out) (l .i) (getD row (l .i) 0) (c .before .loop-test .taken) refl (l .inv .2),
     )
 
--- src/table.rt:12:1
 same-length : tie.Need-same-length Inv-loop μ-loop
 same-length c = search needs
 
--- src/table.rt:12:1
 returns : tie.Need-returns Inv-loop μ-loop
 returns c =
     let l = c .before .loop in

@@ -1,8 +1,7 @@
 -- `table::fill` meets its contract. The loop's invariant: the rows before row `x` are filled. Assumes nothing.
-use Prim.Native.Nat.{ℕ, suc, _+_, _*_, _≤_, _<_, _-_}
-use native.Mathlib.Nat.{sub-zero}
+use Prim.Native.Nat.{_+_, _*_, _≤_, _<_, _-_}
 use native.Mathlib.Numerals.{add-one}
-use mathlib.Core.Path.{_≡_, refl, sym, ap, _∙_}
+use mathlib.Core.Path.{_∙_}
 use lib.ListN.{length}
 use native.Mathlib.Omega.{arith}
 use borrow.Author.Needs.{needs}
@@ -13,11 +12,6 @@ use Rattle.split.proofs.TableRows.{rising-tableRow}
 use Rattle.split.proofs.Filling.{row-end, le-mul-row, row-fits, length-first-row, rows-fit, filled-lowest, filled-below, filled-next, filled-here, filled-since}
 use Rattle.split.proofs.table.fill.Statement.{statement}
 use Rattle.split.proofs.table.fill.Tie as tie
-use Rattle.split.proofs.table.fill.Reads as reads
-use Rattle.split.proofs.table.fill.Lts as lts
-use Rattle.split.proofs.loss.terms.Reads as terms-reads
-use Rattle.split.proofs.row.lowest_row.Reads as lowest-row-reads
-use Rattle.split.proofs.table.raise_row.Reads as raise-row-reads
 
 abbrev Inv-loop : tie.InvT-loop
 Inv-loop mu m s k b work₀ w x₀ work x =
@@ -27,29 +21,23 @@ abbrev μ-loop : tie.MeasureT-loop
 μ-loop mu m s k b work₀ w x₀ work x =
     s - x
 
--- src/table.rt:41:13
 add-w : tie.Need-add-w Inv-loop μ-loop
 add-w c = search needs
 
--- src/table.rt:42:16
 sub-lowest-row : tie.Need-sub-lowest-row Inv-loop μ-loop
 sub-lowest-row c = search needs
 
--- src/table.rt:42:16
 part-lowest-row-start : tie.Need-part-lowest-row-start Inv-loop μ-loop
 part-lowest-row-start c = search needs
 
--- src/table.rt:42:16
 part-lowest-row-end : tie.Need-part-lowest-row-end Inv-loop μ-loop
 part-lowest-row-end c = let s = c .before in row-fits (s .args .s) (s .args .b) _ (s .pre .0 .s-pos) (s .pre .1)
 
--- src/table.rt:42:33
 terms-requires : tie.Need-terms-requires Inv-loop μ-loop
 terms-requires c κs =
     let l = c .before .before .pre .0 in
     (l .s-pos, l .s-le, l .s-le-k, l .k-le)
 
--- src/table.rt:42:5
 lowest-row-requires : tie.Need-lowest-row-requires Inv-loop μ-loop
 lowest-row-requires c κs =
     let s = c .before .before .before in
@@ -57,7 +45,6 @@ lowest-row-requires c κs =
     let limits = terms-limits (s .args .mu) (s .args .m) (s .args .s) (s .args .k) 0 (l .s-pos) (l .s-le) (l .s-le-k) (l .k-le) (l .mu-le 0) (l .m-le 0) in
     (rw (c .terms .ensures) limits, length-first-row (s .args .b) (s .args .work .now) (l .b-le))
 
--- src/table.rt:44:5
 -- where the loop begins row 0 is filled
 lowest-filled : (c : tie.After-slice-known2 Inv-loop μ-loop)
     → let s = c .before .before .before .before .before .before in
@@ -77,11 +64,9 @@ loop-holds c =
     let q = rows-fit (s .args .s) (s .args .b) (length (s .args .work .now)) (s .pre .1) in
     (omega arith, s .pre .0 .s-pos, rw (f .same-length) q, filled-here _ _ _ _ 1 (s .args .work .now) _ f)
 
--- src/table.rt:44:11
 add-loop : tie.Need-add-loop Inv-loop μ-loop
 add-loop c = let h = c .before .before .before .before .before .before .before .pre .0 .s-le in omega (arith, c .loop .inv .1)
 
--- src/table.rt:45:25
 mul-raise-row : tie.Need-mul-raise-row Inv-loop μ-loop
 mul-raise-row c =
     let s = c .before .before .before .before .before .before .before .before .before in
@@ -91,13 +76,11 @@ mul-raise-row c =
     let fits = rows-fit (s .args .s) (s .args .b) (length (s .args .work .now)) (s .pre .1) in
     omega (arith, s .good)
 
--- src/table.rt:45:35
 terms-requires-2 : tie.Need-terms-requires-2 Inv-loop μ-loop
 terms-requires-2 c κs =
     let l = c .before .before .before .before .before .before .before .before .before .pre .0 in
     (omega (arith, c .before .loop-test .taken), l .s-le, l .s-le-k, l .k-le)
 
--- src/table.rt:45:9
 raise-row-requires : tie.Need-raise-row-requires Inv-loop μ-loop
 raise-row-requires c κs =
     let s = c .before .before .before .before .before .before .before .before .before .before in
@@ -111,18 +94,15 @@ raise-row-requires c κs =
     let fits = l .inv .2 in (
       (rw (c .terms2 .ensures) limits, omega (arith, limit .b-le), le-mul-row (s .args .b + 1) (l .x) (l .inv .0), omega arith),
       rw (filled-below heads (s .args .s) (s .args .k) (s .args .b + 1) (l .x) _ (l .work) (l .inv .0) (l .inv .3))
-      (rising-tableRow heads (s .args .s) (s .args .k) (s .args .b + 1) (l .x - 1)),
+          (rising-tableRow heads (s .args .s) (s .args .k) (s .args .b + 1) (l .x - 1)),
     )
 
--- src/table.rt:46:9
 add-x : tie.Need-add-x Inv-loop μ-loop
 add-x c = let h = c .before .before .before .before .before .before .before .before .before .before .before .before .before .pre .0 .s-le in omega (arith, c .before .before .before .before .before .before .loop .inv .1)
 
--- src/table.rt:44:5
 loop-less : tie.Need-loop-less Inv-loop μ-loop
 loop-less c = omega arith
 
--- src/table.rt:44:5
 loop-again : tie.Need-loop-again Inv-loop μ-loop
 loop-again c =
     let s = c .before .before .before .before .before .before .before .before .before .before .before .before .before in
@@ -130,7 +110,7 @@ loop-again c =
     let below : l .x < s .args .s = omega (arith, c .before .before .before .before .before .loop-test .taken) in
     let heads = arrayHeads (s .args .mu) (s .args .m) in
     let f = filled-next heads (s .args .s) (s .args .k) (s .args .b + 1) (l .x) _ (l .work) (c .before .before .before .terms2 .result)
-        (l .inv .2) (l .inv .0) below (c .before .before .before .terms2 .ensures) (l .inv .3)
+    (l .inv .2) (l .inv .0) below (c .before .before .before .terms2 .ensures) (l .inv .3)
     in (
       omega arith,
       omega arith,
@@ -138,11 +118,9 @@ loop-again c =
       rw (c .before .before .raise-row .ensures) f,
     )
 
--- src/table.rt:37:1
 same-length : tie.Need-same-length Inv-loop μ-loop
 same-length c = c .before .loop .inv .3 .same-length ∙ lowest-filled (c .before .before) .same-length
 
--- src/table.rt:37:1
 returns : tie.Need-returns Inv-loop μ-loop
 returns c =
     let s = c .before .before .before .before .before .before .before .before in

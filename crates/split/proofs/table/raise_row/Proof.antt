@@ -1,89 +1,65 @@
 -- `table::raise_row` meets its contract: the row before `at` is copied, and the next one is made from it. Assumes nothing.
-use mathlib.Core.Path.{_≡_, sym, ap, _∙_}
-use lib.ListN.{length}
-use native.Mathlib.Omega.{arith}
+use mathlib.Core.Path.{ap, _∙_}
 use borrow.Author.Needs.{needs}
 use Rattle.split.specs.Table.{rowAbove}
 use Rattle.split.proofs.Copied.{le-length-copied, take-copied, rising-copied, length-next, length-copied-le, put-next}
 use Rattle.split.proofs.table.raise_row.Statement.{statement}
 use Rattle.split.proofs.table.raise_row.Tie as tie
-use Rattle.split.proofs.table.raise_row.Reads as reads
-use Rattle.split.proofs.table.raise_row.Lts as lts
-use Rattle.split.proofs.row.next_row.Reads as next-row-reads
-use Rattle.split.proofs.table.copy_row.Reads as copy-row-reads
 
--- src/table.rt:30:16
 sub-from : tie.Need-sub-from
 sub-from c = search needs
 
--- src/table.rt:31:15
 add-end : tie.Need-add-end
 add-end c = search needs
 
--- src/table.rt:32:14
 sub-copy-row : tie.Need-sub-copy-row
 sub-copy-row c = search needs
 
--- src/table.rt:32:14
 part-below-start : tie.Need-part-below-start
 part-below-start c = search needs
 
--- src/table.rt:32:14
 part-below-end : tie.Need-part-below-end
 part-below-end c = search needs
 
--- src/table.rt:32:32
 mul-copy-row : tie.Need-mul-copy-row
 mul-copy-row c = search needs
 
--- src/table.rt:32:32
 sub-copy-row-2 : tie.Need-sub-copy-row-2
 sub-copy-row-2 c = search needs
 
--- src/table.rt:32:32
 part-copy-row-start : tie.Need-part-copy-row-start
 part-copy-row-start c = search needs
 
--- src/table.rt:32:32
 part-copy-row-end : tie.Need-part-copy-row-end
 part-copy-row-end c = search needs
 
--- src/table.rt:32:5
 copy-row-requires : tie.Need-copy-row-requires
 copy-row-requires c κs = search needs
 
--- src/table.rt:33:14
 mul-next-row : tie.Need-mul-next-row
 mul-next-row c = search needs
 
--- src/table.rt:33:14
 sub-next-row : tie.Need-sub-next-row
 sub-next-row c = search needs
 
--- src/table.rt:33:14
 part-next-row-start : tie.Need-part-next-row-start
 part-next-row-start c = search needs
 
--- src/table.rt:33:14
 part-next-row-end : tie.Need-part-next-row-end
 part-next-row-end c = search needs
 
--- src/table.rt:33:34
 sub-next-row-2 : tie.Need-sub-next-row-2
 sub-next-row-2 c = search needs
 
--- src/table.rt:33:34
 part-next-row-start-2 : tie.Need-part-next-row-start-2
 part-next-row-start-2 c = search needs
 
--- src/table.rt:33:34
 part-next-row-end-2 : tie.Need-part-next-row-end-2
 part-next-row-end-2 c =
     let s = c .before .before .before .before .before .before .before .before in
     let copied = c .before .before .before .copy-row in
     le-length-copied (s .args .work .now) (s .args .at) (s .args .w) (s .pre .0 .2) (s .pre .0 .3) (copied .last .0) _ (copied .ensures)
 
--- src/table.rt:33:5
 next-row-requires : tie.Need-next-row-requires
 next-row-requires c κs =
     let s = c .before .before .before .before .before .before .before .before .before in
@@ -97,11 +73,9 @@ next-row-requires c κs =
       length-copied-le work at w (s .pre .0 .2) (s .pre .0 .3) (copied .last .0) _ (copied .ensures) (s .pre .0 .1),
     )
 
--- src/table.rt:24:1
 same-length : tie.Need-same-length
 same-length c = search needs
 
--- src/table.rt:24:1
 returns : tie.Need-returns
 returns c =
     let s = c .before .before .before .before .before .before .before .before .before .before .before .before in
