@@ -17,6 +17,7 @@ use Rattle.split.specs.Splits.{layerAt, hasBlock, lossOf, leastLoss, bes
 use Rattle.split.specs.Arrays.{arrayHeads}
 use Rattle.split.specs.Table.{termLoss}
 use Rattle.split.proofs.Congruence.{least-congr, lastLeast-congr}
+use Rattle.split.proofs.LeastLoss.{lossAt}
 use Rattle.split.proofs.Terms.{lossOf-termLoss, layerAt-arrayHeads}
 
 -- layers that agree below x
@@ -36,10 +37,13 @@ module _ (a b : List LayerHead) (s k : ℕ) where
   leastLoss-congr (suc x) n h =
       least-congr _ _ n (λ c l. ap₂ _+_ (lossOf-congr x c (h x (lt-suc-self x))) (leastLoss-congr x (n - c) (λ y g. h y (omega arith))))
 
+  lossAt-congr : (x n c : ℕ) → AgreeBelow a b (suc x) → lossAt a s k x n c ≡ lossAt b s k x n c
+  lossAt-congr x n c h =
+      ap₂ _+_ (lossOf-congr x c (h x (lt-suc-self x))) (leastLoss-congr x (n - c) (λ y g. h y (omega arith)))
+
   bestCount-congr : (x n : ℕ) → AgreeBelow a b (suc x) → bestCount a s k x n ≡ bestCount b s k x n
   unfolding bestCount
-  bestCount-congr x n h =
-      lastLeast-congr _ _ n (λ c l. ap₂ _+_ (lossOf-congr x c (h x (lt-suc-self x))) (leastLoss-congr x (n - c) (λ y g. h y (omega arith))))
+  bestCount-congr x n h = lastLeast-congr _ _ n (λ c l. lossAt-congr x n c h)
 
   pub namedCounts-congr : (x n : ℕ) → AgreeBelow a b x → namedCounts a s k x n ≡ namedCounts b s k x n
   unfolding namedCounts

@@ -1,6 +1,6 @@
 -- A layer's losses from its four numbers: they are those of the definition, and no product wraps. Assumes nothing.
 use Prim.Native.Nat.{ℕ, suc, _+_, _*_, _/_, _≤_, _<_, _^_, min}
-use native.Mathlib.Nat.{le-refl, le-trans, lt-of-le-of-lt, mul-le-mul, le-of-lt}
+use native.Mathlib.Nat.{le-refl, lt-of-le-of-lt, mul-le-mul, le-of-lt}
 use native.Mathlib.Omega.{arith}
 use mathlib.Core.Path.{_≡_, refl, ap, _∙_}
 use mathlib.Core.Bool.{Bool, true, false, cond, _&&_}
@@ -17,7 +17,6 @@ use Rattle.split.specs.declared.loss.LossTerms.{LossTerms}
 use Rattle.split.specs.Splits.{layerAt, copiesFor, noSplit, lossOf}
 use Rattle.split.specs.Arrays.{arrayHeads}
 use Rattle.split.specs.Table.{termsOf, termLoss, TermLimits}
-use Rattle.split.proofs.Copies.{copiesFor-le-self}
 use Rattle.split.proofs.LossOf.{refused-test, blocks-test, no-record-test}
 
 -- the losses of layer x
@@ -51,16 +50,13 @@ module _ (t : LossTerms) where
       go true = le-refl noSplit
       go false = omega arith
 
-  -- the products of a loss
-  module _ (limits : TermLimits t) (c : ℕ) (small : c ≤ 4_096) where
-    pub lambda-le : copiesFor c (t .size) * t .bound ≤ 16_777_216
-    lambda-le = mul-le-mul (le-trans (copiesFor-le-self c (t .size)) small) (limits .bound-le)
+  -- the products of a loss, with no more copies than c and m together
+  module _ (limits : TermLimits t) (d : ℕ) (few : d ≤ 8_192) where
+    pub lambda-lt : d * t .bound < 2 ^ 64
+    lambda-lt = lt-of-le-of-lt (mul-le-mul few (limits .bound-le)) (lit< tt)
 
-    pub lambda-lt : copiesFor c (t .size) * t .bound < 2 ^ 64
-    lambda-lt = lt-of-le-of-lt lambda-le (lit< tt)
-
-    pub lambda-mul-lt : copiesFor c (t .size) * t .bound * t .failed < 2 ^ 64
-    lambda-mul-lt = lt-of-le-of-lt (mul-le-mul lambda-le (le-of-lt (limits .failed-lt))) (lit< tt)
+    pub lambda-mul-lt : d * t .bound * t .failed < 2 ^ 64
+    lambda-mul-lt = lt-of-le-of-lt (mul-le-mul (mul-le-mul few (limits .bound-le)) (le-of-lt (limits .failed-lt))) (lit< tt)
 
 -- the array's numbers are those of the layers
 pub layerAt-arrayHeads : (mu m : List ℕ) (x : ℕ) → x < 5 → layerAt (arrayHeads mu m) x ≡ record { bound = getD mu x 0; size = getD m x 0 }

@@ -14,10 +14,10 @@ pub fn lowest_row(out: &mut [u16], t: LossTerms)
     requires { ⌜ TermLimits t × (length (now out) ≤ 4097) ⌝ }
     ensures { λ _. ⌜ now (out .exit) ≡ map (termLoss t) (upTo (length (now (out .entry)))) ⌝ }
 {
-    let mut c: usize = 0;
-    while c < out.len() {
-        out[c] = loss_of(t, c);
-        c += 1;
+    let mut count: usize = 0;
+    while count < out.len() {
+        out[count] = loss_of(t, count);
+        count += 1;
     }
 }
 

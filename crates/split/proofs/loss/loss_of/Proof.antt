@@ -1,4 +1,5 @@
 -- `loss::loss_of` meets its contract: the tests are those of the definition, and no product wraps. Assumes nothing.
+use native.Mathlib.Nat.{le-trans, div-le-self}
 use mathlib.Core.Path.{sym, _∙_}
 use native.Mathlib.Omega.{arith}
 use borrow.Author.Needs.{needs}
@@ -27,12 +28,14 @@ div-copies c = search needs
 mul-smaller : tie.Need-mul-smaller
 mul-smaller c =
     let s = c .before .before in
-    record { fits = lambda-lt (s .args .t) (s .pre .0) (s .args .c) (s .pre .1) }
+    let h = s .pre .0 .size-le in
+    record { fits = lambda-lt (s .args .t) (s .pre .0) _ (le-trans (div-le-self _ (s .args .t .size)) (omega arith)) }
 
 mul-smaller-2 : tie.Need-mul-smaller-2
 mul-smaller-2 c =
     let s = c .before .before .before in
-    record { fits = lambda-mul-lt (s .args .t) (s .pre .0) (s .args .c) (s .pre .1) }
+    let h = s .pre .0 .size-le in
+    record { fits = lambda-mul-lt (s .args .t) (s .pre .0) _ (le-trans (div-le-self _ (s .args .t .size)) (omega arith)) }
 
 div-smaller : tie.Need-div-smaller
 div-smaller c = search needs

@@ -1,4 +1,4 @@
--- `row::lowest_row` meets its contract: the entries before `c` are the losses of so many records. Assumes nothing.
+-- `row::lowest_row` meets its contract: the entries before `count` are the losses of so many records. Assumes nothing.
 use Prim.Native.Nat.{ℕ, _≤_, _<_, _-_}
 use mathlib.Core.Path.{_≡_, refl}
 use lib.ListN.{length, getD, length-set}
@@ -10,12 +10,12 @@ use Rattle.split.proofs.row.lowest_row.Statement.{statement}
 use Rattle.split.proofs.row.lowest_row.Tie as tie
 
 abbrev Inv-loop : tie.InvT-loop
-Inv-loop out₀ t c₀ out c =
-    (c ≤ length out) × (length out ≡ length out₀) × ((j : ℕ) → j < c → getD out j 0 ≡ termLoss t j)
+Inv-loop out₀ t count₀ out count =
+    (count ≤ length out) × (length out ≡ length out₀) × ((j : ℕ) → j < count → getD out j 0 ≡ termLoss t j)
 
 abbrev μ-loop : tie.MeasureT-loop
-μ-loop out₀ t c₀ out c =
-    length out - c
+μ-loop out₀ t count₀ out count =
+    length out - count
 
 loop-holds : tie.Need-loop-holds Inv-loop μ-loop
 loop-holds c = (search needs, refl, λ j h. absurd (omega arith))
@@ -29,8 +29,8 @@ mul-out c = omega arith
 slice-write-out : tie.Need-slice-write-out Inv-loop μ-loop
 slice-write-out c = search needs
 
-add-c : tie.Need-add-c Inv-loop μ-loop
-add-c c = omega arith
+add-count : tie.Need-add-count Inv-loop μ-loop
+add-count c = omega arith
 
 loop-less : tie.Need-loop-less Inv-loop μ-loop
 loop-less c = simp length-set (omega arith)
@@ -40,7 +40,7 @@ loop-again c =
     let l = c .before .before .loop in (
       simp length-set (omega arith),
       simp length-set (l .inv .1),
-      getD-set-below (termLoss (c .before .before .before .before .args .t)) (l .out) (l .c) (c .loss-of .result)
+      getD-set-below (termLoss (c .before .before .before .before .args .t)) (l .out) (l .count) (c .loss-of .result)
           (c .before .loop-test .taken) (c .loss-of .ensures) (l .inv .2),
     )
 
@@ -63,7 +63,7 @@ lowest-row-spec =
     loss-of-requires
     mul-out
     slice-write-out
-    add-c
+    add-count
     loop-less
     loop-again
     same-length
