@@ -1,3 +1,6 @@
 pub mod Worked
 pub mod Placed
 pub mod Planned
+pub mod Putting
+pub mod Layering
+pub mod Lambdas

@@ -1,0 +1,135 @@
+-- The rows of layers written one after another to a slice. Assumes nothing.
+use Prim.Native.Nat.{ℕ, zero, suc, _+_, _*_, _-_, _≤_, _<_}
+use native.Mathlib.Omega.{arith}
+use native.Mathlib.Numerals.{add-one}
+use native.Mathlib.Nat.{le-refl, le-trans, mul-le-mul, eq-or-lt-of-le, le-of-suc-le-suc, not-suc-le-zero}
+use mathlib.Core.Path.{_≡_, refl, sym, _∙_, ap}
+use mathlib.Core.Logic.{_⊎_, inl, inr}
+use mathlib.Core.List.{List, [], _∷_, _++_, flatten, map, append-nil}
+use lib.ListN.{length, getD, take, drop, length-append, length-drop}
+use Rattle.lists.specs.Lists.{All, total, upTo}
+use Rattle.lists.proofs.Counts.{flatten-append, total-append}
+use Rattle.lists.proofs.UpTo.{map-upTo-suc}
+use Rattle.packing.specs.Rows.{rowsAt, repeated}
+use Rattle.packing.proofs.Copies.{repeated-rows, length-repeated}
+use Rattle.layers.proofs.Lengths.{length-flatten-rows}
+use Rattle.layers.proofs.Layouts.{length-rowsAt, rowsAt-lengths}
+use Rattle.rows.proofs.Lists.{take-drop-rest, write-part}
+use Rattle.rows.proofs.Written.{givenBack}
+use Rattle.planner.specs.Writing.{beginning, totalBelow, layerRows, rowsBelow}
+
+pub totalBelow-suc : (array : List ℕ) (x : ℕ) → totalBelow array (suc x) ≡ totalBelow array x + getD array x 0
+unfolding total
+totalBelow-suc array x =
+    ap total (map-upTo-suc (λ y. getD array y 0) x)
+    ∙ total-append (map (λ y. getD array y 0) (upTo x)) (getD array x 0 ∷ [])
+    ∙ omega arith
+
+pub totalBelow-mono : (array : List ℕ) (x y : ℕ) → x ≤ y → totalBelow array x ≤ totalBelow array y
+totalBelow-mono array x zero h = let e : x ≡ 0 = omega arith in rw e (le-refl _)
+totalBelow-mono array x (suc y) h = go (eq-or-lt-of-le h) (totalBelow-mono array x y)
+  where
+    go : (x ≡ suc y) ⊎ (x < suc y) → (x ≤ y → totalBelow array x ≤ totalBelow array y) → totalBelow array x ≤ totalBelow array (suc y)
+    go (inl e) ih = rw e (le-refl _)
+    go (inr l) ih = let i = ih (le-of-suc-le-suc l) in omega (arith, totalBelow-suc array y)
+
+-- the entries below x and the one at x, r bytes each, are within all
+pub below-fits : (array : List ℕ) (r x s : ℕ) → x < s → totalBelow array x * r + getD array x 0 * r ≤ totalBelow array s * r
+below-fits array r x s h =
+    let m = mul-le-mul (rw (totalBelow-suc array x) at (totalBelow-mono array (suc x) s h)) (le-refl r) in
+    omega arith
+
+-- c rows of r bytes each take c × r bytes
+pub length-repeated-rows : (r n c : ℕ) (blocks : List ℕ) → n * r ≤ length blocks → (0 < c → 0 < n)
+    → length (flatten (repeated (rowsAt r n blocks) c)) ≡ c * r
+length-repeated-rows r n c blocks fits some =
+    length-flatten-rows r (repeated (rowsAt r n blocks) c)
+    (repeated-rows (λ row. length row ≡ r) c c (rowsAt r n blocks) (rw (length-rowsAt r n blocks) (enough c some)) (rowsAt-lengths r n blocks fits))
+    ∙ ap (λ l. l * r) (length-repeated (rowsAt r n blocks) c)
+  where
+    enough : (c : ℕ) → (0 < c → 0 < n) → c ≤ c * n
+    enough zero h = omega arith
+    enough (suc c) h = let m = mul-le-mul (le-refl (suc c)) (h (omega arith)) in omega arith
+
+pub rowsBelow-suc : (r : ℕ) (blocks m counts : List ℕ) (x : ℕ)
+    → rowsBelow r blocks m counts (suc x) ≡ rowsBelow r blocks m counts x ++ flatten (layerRows r blocks m counts x)
+unfolding flatten
+rowsBelow-suc r blocks m counts x =
+    let f = layerRows r blocks m counts in
+    ap (λ (l : List (List (List ℕ))). flatten (flatten l)) (map-upTo-suc f x)
+    ∙ ap flatten (flatten-append (map f (upTo x)) (f x ∷ []) ∙ ap (λ (l : List (List ℕ)). flatten (map f (upTo x)) ++ l) (append-nil (f x)))
+    ∙ flatten-append (flatten (map f (upTo x))) (f x)
+
+-- The rows of the layers below x are written. The next layer's begin at byte `to`, and its blocks at byte `from`; from `to`
+-- on the bytes are as they were.
+pub record LayersWritten (out₀ blocks : List ℕ) (r s : ℕ) (m counts out : List ℕ) (to from x : ℕ) : Type 0 where
+  pub within : x ≤ s
+  pub place : to ≡ totalBelow counts x * r
+  pub source : from ≡ totalBelow m x * r
+  pub taken : length (rowsBelow r blocks m counts x) ≡ to
+  pub same : length out ≡ length out₀
+  pub bytes : out ≡ rowsBelow r blocks m counts x ++ drop to out₀
+
+pub layers-none : (out blocks : List ℕ) (r s : ℕ) (m counts : List ℕ) → LayersWritten out blocks r s m counts out 0 0 0
+unfolding flatten upTo total
+layers-none out blocks r s m counts =
+    record { within = omega arith; place = omega arith; source = omega arith; taken = refl; same = refl; bytes = refl }
+
+module _ {out₀ blocks : List ℕ} {r s : ℕ} {m counts out : List ℕ} {to from x : ℕ}
+    (w : LayersWritten out₀ blocks r s m counts out to from x) where
+  module _ (h : x < s) (rows-fit : totalBelow counts s * r ≤ length out₀) (blocks-fit : totalBelow m s * r ≤ length blocks)
+      (some : 0 < getD counts x 0 → 0 < getD m x 0) where
+    pub layer-fits : to + getD counts x 0 * r ≤ length out
+    layer-fits = omega (arith, below-fits counts r x s h, w .place, w .same)
+
+    pub blocks-within : from + getD m x 0 * r ≤ length blocks
+    blocks-within = omega (arith, below-fits m r x s h, w .source)
+
+    -- the part of the blocks that is lent
+    abbrev pub lentBlocks : List ℕ
+    lentBlocks = take (length blocks - from) (drop from blocks)
+
+    pub lent-blocks-fit : getD m x 0 * r ≤ length lentBlocks
+    lent-blocks-fit = rw (take-drop-rest blocks from, length-drop from blocks) (omega (arith, blocks-within))
+
+    pub lent-out-fits : getD counts x 0 * r ≤ length (take (length out - to) (drop to out))
+    lent-out-fits = rw (take-drop-rest out to, length-drop to out) (omega (arith, layer-fits))
+
+    is-layer : repeated (rowsAt r (getD m x 0) lentBlocks) (getD counts x 0) ≡ layerRows r blocks m counts x
+    is-layer = rw (take-drop-rest blocks from, w .source)
+
+    length-layer : length (flatten (layerRows r blocks m counts x)) ≡ getD counts x 0 * r
+    length-layer =
+        ap (λ (l : List (List ℕ)). length (flatten l)) (sym is-layer)
+        ∙ length-repeated-rows r (getD m x 0) (getD counts x 0) lentBlocks lent-blocks-fit some
+
+    module _ (last : List ℕ)
+        (e : last ≡ flatten (repeated (rowsAt r (getD m x 0) lentBlocks) (getD counts x 0)) ++ drop (getD counts x 0 * r) (take (length out - to) (drop to out))) where
+      wrote : givenBack out to last ≡ rowsBelow r blocks m counts x ++ flatten (layerRows r blocks m counts x) ++ drop (to + length (flatten (layerRows r blocks m counts x))) out₀
+      wrote =
+          write-part
+          (rowsBelow r blocks m counts x) (flatten (layerRows r blocks m counts x)) out₀ out last to (w .taken) (w .bytes)
+          (e ∙ rw (is-layer, length-layer))
+
+      next-bytes : givenBack out to last ≡ rowsBelow r blocks m counts (x + 1) ++ drop (to + getD counts x 0 * r) out₀
+      next-bytes = wrote ∙ rw (length-layer, add-one x, rowsBelow-suc r blocks m counts x)
+
+      next-taken : length (rowsBelow r blocks m counts (x + 1)) ≡ to + getD counts x 0 * r
+      next-taken =
+          rw (add-one x, rowsBelow-suc r blocks m counts x, length-append (rowsBelow r blocks m counts x), w .taken, length-layer)
+
+      pub layers-next : LayersWritten out₀ blocks r s m counts (givenBack out to last) (to + getD counts x 0 * r) (from + getD m x 0 * r) (x + 1)
+      layers-next = record {
+        within = omega arith;
+        place = rw (add-one x, totalBelow-suc counts x) (omega (arith, w .place));
+        source = rw (add-one x, totalBelow-suc m x) (omega (arith, w .source));
+        taken = next-taken;
+        same = ap length next-bytes ∙ simp (length-append, length-drop) (omega (arith, next-taken, layer-fits, w .same));
+        bytes = next-bytes;
+      }
+
+  pub layers-all : s ≤ x → out ≡ beginning (rowsBelow r blocks m counts s) out₀
+  layers-all h =
+      let all : x ≡ s = omega (arith, w .within) in
+      let e : out ≡ beginning (rowsBelow r blocks m counts x) out₀ = rw (w .taken) (w .bytes) in
+      rw (← all) e

@@ -1,0 +1,157 @@
+use Prim.Native.Nat.{_+_, _-_, _*_, _≤_}
+use native.Mathlib.Omega.{arith}
+use lib.ListN.{length, getD}
+use Rattle.planner.proofs.Layering.{LayersWritten, layers-none, layer-fits, blocks-within, lent-out-fits, lent-blocks-fit, layers-next, layers-all}
+use borrow.Author.Needs.{needs}
+use Rattle.planner.proofs.write.write_layers.Statement.{statement}
+use Rattle.planner.proofs.write.write_layers.Tie as tie
+use Rattle.planner.proofs.write.write_layers.Reads as reads
+use Rattle.planner.proofs.write.write_layers.Lts as lts
+use Rattle.rows.proofs.write_rows.Reads as write-rows-reads
+
+abbrev Inv-loop : tie.InvT-loop
+Inv-loop out₀ blocks r s m counts to₀ from₀ x₀ out to from x = LayersWritten out₀ blocks r s m counts out to from x
+
+abbrev μ-loop : tie.MeasureT-loop
+μ-loop out₀ blocks r s m counts to₀ from₀ x₀ out to from x = s - x
+
+-- in a turn the layer's rows and blocks lie within the slices
+rows-within : (c : tie.In-loop Inv-loop μ-loop)
+    → c .before .loop .to + getD (c .before .before .before .before .args .t6) (c .before .loop .x) 0 * c .before .before .before .before .args .r ≤ length (c .before .loop .out)
+rows-within c =
+    let s = c .before .before .before .before in
+    let l = c .before .loop in
+    let t = c .loop-test .taken in
+    layer-fits (l .inv) t (s .pre .1 .0) (s .pre .1 .1 .0) (s .pre .1 .1 .1 (l .x) t)
+
+blocks-in : (c : tie.In-loop Inv-loop μ-loop)
+    → c .before .loop .from + getD (c .before .before .before .before .args .t5) (c .before .loop .x) 0 * c .before .before .before .before .args .r ≤ length (c .before .before .before .before .args .blocks .now)
+blocks-in c =
+    let s = c .before .before .before .before in
+    let l = c .before .loop in
+    let t = c .loop-test .taken in
+    blocks-within (l .inv) t (s .pre .1 .0) (s .pre .1 .1 .0) (s .pre .1 .1 .1 (l .x) t)
+
+-- src/write.rt:101:5
+loop-holds : tie.Need-loop-holds Inv-loop μ-loop
+loop-holds c = layers-none _ _ _ _ _ _
+
+-- src/write.rt:102:20
+mul-size : tie.Need-mul-size Inv-loop μ-loop
+mul-size c = search needs
+
+-- src/write.rt:102:20
+array-read-size : tie.Need-array-read-size Inv-loop μ-loop
+array-read-size c = search needs
+
+-- src/write.rt:103:21
+mul-count : tie.Need-mul-count Inv-loop μ-loop
+mul-count c = search needs
+
+-- src/write.rt:103:21
+array-read-count : tie.Need-array-read-count Inv-loop μ-loop
+array-read-count c = search needs
+
+-- src/write.rt:104:26
+sub-write-rows : tie.Need-sub-write-rows Inv-loop μ-loop
+sub-write-rows c = omega (arith, rows-within c)
+
+-- src/write.rt:104:26
+part-write-rows-start : tie.Need-part-write-rows-start Inv-loop μ-loop
+part-write-rows-start c = omega (arith, rows-within c)
+
+-- src/write.rt:104:26
+part-write-rows-end : tie.Need-part-write-rows-end Inv-loop μ-loop
+part-write-rows-end c = search needs
+
+-- src/write.rt:104:42
+sub-write-rows-2 : tie.Need-sub-write-rows-2 Inv-loop μ-loop
+sub-write-rows-2 c = omega (arith, blocks-in (c .before))
+
+-- src/write.rt:104:42
+part-write-rows-start-2 : tie.Need-part-write-rows-start-2 Inv-loop μ-loop
+part-write-rows-start-2 c = omega (arith, blocks-in (c .before))
+
+-- src/write.rt:104:42
+part-write-rows-end-2 : tie.Need-part-write-rows-end-2 Inv-loop μ-loop
+part-write-rows-end-2 c = search needs
+
+-- src/write.rt:104:9
+write-rows-requires : tie.Need-write-rows-requires Inv-loop μ-loop
+write-rows-requires c κs =
+    let turn = c .before .before in
+    let s = turn .before .before .before .before in
+    let l = turn .before .loop in
+    let t = turn .loop-test .taken in
+    let some = s .pre .1 .1 .1 (l .x) t in
+    (lent-out-fits (l .inv) t (s .pre .1 .0) (s .pre .1 .1 .0) some, (lent-blocks-fit (l .inv) t (s .pre .1 .0) (s .pre .1 .1 .0) some, some))
+
+-- src/write.rt:105:15
+mul-to : tie.Need-mul-to Inv-loop μ-loop
+mul-to c = omega (arith, rows-within (c .before .before .before .before .before))
+
+-- src/write.rt:105:9
+add-to : tie.Need-add-to Inv-loop μ-loop
+add-to c = omega (arith, rows-within (c .before .before .before .before .before))
+
+-- src/write.rt:106:17
+mul-from : tie.Need-mul-from Inv-loop μ-loop
+mul-from c = omega (arith, blocks-in (c .before .before .before .before .before))
+
+-- src/write.rt:106:9
+add-from : tie.Need-add-from Inv-loop μ-loop
+add-from c = omega (arith, blocks-in (c .before .before .before .before .before))
+
+-- src/write.rt:107:9
+add-x : tie.Need-add-x Inv-loop μ-loop
+add-x c = search needs
+
+-- src/write.rt:101:5
+loop-less : tie.Need-loop-less Inv-loop μ-loop
+loop-less c = omega arith
+
+-- src/write.rt:101:5
+loop-again : tie.Need-loop-again Inv-loop μ-loop
+loop-again c =
+    let turn = c .before .before .before .before .before in
+    let s = turn .before .before .before .before in
+    let l = turn .before .loop in
+    let t = turn .loop-test .taken in
+    let w = c .before .before .write-rows in
+    layers-next (l .inv) t (s .pre .1 .0) (s .pre .1 .1 .0) (s .pre .1 .1 .1 (l .x) t) (w .last .0) (w .ensures)
+
+-- src/write.rt:91:1
+same-length : tie.Need-same-length Inv-loop μ-loop
+same-length c = c .before .loop .inv .same
+
+-- src/write.rt:91:1
+returns : tie.Need-returns Inv-loop μ-loop
+returns c = layers-all (c .before .loop .inv) (c .loop-test .left)
+
+pub write-layers-spec : {M : Type 1} → statement M
+write-layers-spec =
+    tie.close
+    (tie.spec
+    Inv-loop
+    μ-loop
+    loop-holds
+    mul-size
+    array-read-size
+    mul-count
+    array-read-count
+    sub-write-rows
+    part-write-rows-start
+    part-write-rows-end
+    sub-write-rows-2
+    part-write-rows-start-2
+    part-write-rows-end-2
+    write-rows-requires
+    mul-to
+    add-to
+    mul-from
+    add-from
+    add-x
+    loop-less
+    loop-again
+    same-length
+    returns)

@@ -1,0 +1,59 @@
+-- Writing a split's placement: what the code's arrays and bytes stand for. Assumes nothing.
+use Prim.Native.Nat.{ℕ, _+_, _*_, _≤_, _<_}
+use mathlib.Core.List.{List, _++_, map, flatten}
+use lib.ListN.{length, getD, drop}
+use Rattle.lists.specs.Lists.{total, upTo}
+use Rattle.number.specs.Numbers.{numberBytes}
+use Rattle.packing.specs.Rows.{rowsAt, repeated}
+use Rattle.layers.specs.Layers.{LayerHead, headsOf, layersAt}
+use Rattle.pack.specs.Pack.{Pack, GoodPack}
+use Rattle.placement.specs.Placement.{Placement}
+use Rattle.split.specs.Splits.{Share, Split, layerAt, copiesFor, shareOf}
+use Rattle.planner.specs.Planning.{OrderLimits, splitPlacement}
+
+-- the numbers' shortest forms one after another
+abbrev pub formsOf : List ℕ → List ℕ
+formsOf numbers = flatten (map numberBytes numbers)
+
+-- the slice with `bytes` at its start: "bytes or entries past the written length don't change"
+abbrev pub beginning : (bytes slice : List ℕ) → List ℕ
+beginning bytes slice = bytes ++ drop (length bytes) slice
+
+-- the two numbers of each of the first layers, from the code's two arrays
+abbrev pub arrayHeads : (layers : ℕ) (bound size : List ℕ) → List LayerHead
+arrayHeads layers bound size = map (λ x. record { bound = getD bound x 0; size = getD size x 0 }) (upTo layers)
+
+-- the sum of an array's entries below x
+abbrev pub totalBelow : (array : List ℕ) (x : ℕ) → ℕ
+totalBelow array x = total (map (λ y. getD array y 0) (upTo x))
+
+-- "its lambda is d × mu", with the least d
+abbrev pub lambdaOf : (mu m counts : List ℕ) (x : ℕ) → ℕ
+lambdaOf mu m counts x = copiesFor (getD counts x 0) (getD m x 0) * getD mu x 0
+
+-- the rows of layer x, where the bytes are the blocks of all layers
+abbrev pub layerRows : (r : ℕ) (blocks m counts : List ℕ) (x : ℕ) → List (List ℕ)
+layerRows r blocks m counts x =
+    repeated (rowsAt r (getD m x 0) (drop (totalBelow m x * r) blocks)) (getD counts x 0)
+
+-- the rows of the layers below x, "layer by layer"
+abbrev pub rowsBelow : (r : ℕ) (blocks m counts : List ℕ) (x : ℕ) → List ℕ
+rowsBelow r blocks m counts x = flatten (flatten (map (layerRows r blocks m counts) (upTo x)))
+
+-- the pack whose blocks the bytes begin with
+abbrev pub arrayPack : (n r : ℕ) (mu m blocks : List ℕ) → Pack
+arrayPack n r mu m blocks = record { n = n; r = r; layers = layersAt r (arrayHeads r mu m) blocks }
+
+-- the split with these counts, "with the least d for each c"
+abbrev pub leastCopies : List LayerHead → (counts : List ℕ) → ℕ → Share
+leastCopies layers counts x = shareOf (layerAt layers x) (getD counts x 0)
+
+-- the placement of the split with these counts
+abbrev pub countsPlacement : Pack → (s k b : ℕ) (counts : List ℕ) → Placement
+countsPlacement pack s k b counts = splitPlacement pack s k b (leastCopies (headsOf (pack .layers)) counts)
+
+-- what writing the placement asks of the pack, the order and the counts
+pub record Writable (pack : Pack) (s k b : ℕ) (counts : List ℕ) : Type 0 where
+  pub good : GoodPack pack
+  pub order : OrderLimits pack s k b
+  pub is-split : Split (headsOf (pack .layers)) s b (leastCopies (headsOf (pack .layers)) counts)

@@ -1,0 +1,131 @@
+// Writing a split's placement: the head's numbers, then each layer's rows.
+ghost use mathlib.Core.Path.{_≡_};
+ghost use Prim.Native.Nat.{ℕ, _+_, _*_, _≤_, _<_};
+ghost use mathlib.Core.List.{_∷_, _++_};
+ghost use lib.ListN.{length, getD, take, drop};
+ghost use Rattle.lists.specs.Lists.{All};
+ghost use Rattle.number.specs.Numbers.{largestNumber, numberBytes};
+ghost use Rattle.layers.specs.Layers.{headNumbers};
+ghost use Rattle.split.specs.Splits.{copiesFor};
+ghost use Rattle.planner.specs.Writing.{formsOf, beginning, arrayHeads, totalBelow, lambdaOf, rowsBelow};
+use number::NumberWritten;
+
+// Writes `v` at place `at`. Returns the place after it.
+fn put_number(out: &mut [u8], at: usize, v: usize) -> usize
+    requires { ⌜ v ≤ largestNumber ⌝ }
+    requires { ⌜ at + length (numberBytes v) ≤ length (now out) ⌝ }
+    ensures { λ next. ⌜ (next ≡ at + length (numberBytes v))
+        × (now (out .exit) ≡ take at (now (out .entry)) ++ beginning (numberBytes v) (drop at (now (out .entry)))) ⌝ }
+{
+    let written = number::write_number(&mut out[at..], v);
+    let NumberWritten::Written(length) = written else {
+        return at;
+    };
+    at + length
+}
+
+// Writes the numbers one after another to the start of `out`. Returns how many bytes they take.
+fn write_numbers(out: &mut [u8], numbers: &[usize]) -> usize
+    requires { ⌜ All (λ v. v ≤ largestNumber) (now numbers) ⌝ }
+    requires { ⌜ length (formsOf (now numbers)) ≤ length (now out) ⌝ }
+    ensures { λ taken. ⌜ (taken ≡ length (formsOf (now (numbers .entry))))
+        × (now (out .exit) ≡ beginning (formsOf (now (numbers .entry))) (now (out .entry))) ⌝ }
+{
+    let mut at: usize = 0;
+    let mut i: usize = 0;
+    while i < numbers.len() {
+        at = put_number(out, at, numbers[i]);
+        i += 1;
+    }
+    at
+}
+
+// The numbers of a placement's head, with room for five layers.
+fn head_numbers(
+    n: usize,
+    r: usize,
+    s: usize,
+    k: usize,
+    b: usize,
+    figure: usize,
+    lambda: [usize; 5],
+    c: [usize; 5],
+) -> [usize; 17]
+    ensures { λ head. ⌜ head ≡ 2 ∷ n ∷ r ∷ s ∷ k ∷ b ∷ figure ∷ headNumbers (arrayHeads 5 lambda c) ⌝ }
+{
+    [
+        2,
+        n,
+        r,
+        s,
+        k,
+        b,
+        figure,
+        lambda[0],
+        c[0],
+        lambda[1],
+        c[1],
+        lambda[2],
+        c[2],
+        lambda[3],
+        c[3],
+        lambda[4],
+        c[4],
+    ]
+}
+
+// The least copies of m blocks that hold c records; none where there is no block.
+fn copies_for(c: usize, m: usize) -> usize
+    requires { ⌜ c + m ≤ 65536 ⌝ }
+    ensures { λ d. ⌜ d ≡ copiesFor c m ⌝ }
+{
+    if m == 0 {
+        return 0;
+    }
+    (c + (m - 1)) / m
+}
+
+// lambda of each layer below s: its copies × mu.
+fn lambdas(mu: [usize; 5], m: [usize; 5], counts: [usize; 5], s: usize) -> [usize; 5]
+    requires { ⌜ s ≤ 5 ⌝ }
+    requires { ⌜ ((x : ℕ) → x < s → (getD counts x 0 ≤ 4096) × (getD m x 0 ≤ 4096) × (getD mu x 0 ≤ 4096)) ⌝ }
+    ensures { λ lambda. ⌜ ((x : ℕ) → x < s → getD lambda x 0 ≡ lambdaOf mu m counts x) ⌝ }
+{
+    let mut lambda = [0usize; 5];
+    let mut x: usize = 0;
+    while x < s {
+        let copies = copies_for(counts[x], m[x]);
+        lambda[x] = copies * mu[x];
+        x += 1;
+    }
+    lambda
+}
+
+// Writes the rows of the layers below s to the start of `out`, each layer's into the part that begins after the rows
+// already laid down. `blocks` has the blocks of layer 0, then those of layer 1, and so on.
+fn write_layers(
+    out: &mut [u8],
+    blocks: &[u8],
+    r: usize,
+    s: usize,
+    m: [usize; 5],
+    counts: [usize; 5],
+)
+    requires { ⌜ s ≤ 5 ⌝ }
+    requires { ⌜ totalBelow counts s * r ≤ length (now out) ⌝ }
+    requires { ⌜ totalBelow m s * r ≤ length (now blocks) ⌝ }
+    requires { ⌜ ((x : ℕ) → x < s → 0 < getD counts x 0 → 0 < getD m x 0) ⌝ }
+    ensures { λ _. ⌜ now (out .exit) ≡ beginning (rowsBelow r (now (blocks .entry)) m counts s) (now (out .entry)) ⌝ }
+{
+    let mut to: usize = 0;
+    let mut from: usize = 0;
+    let mut x: usize = 0;
+    while x < s {
+        let size = m[x];
+        let count = counts[x];
+        rows::write_rows(&mut out[to..], &blocks[from..], size, r, count);
+        to += count * r;
+        from += size * r;
+        x += 1;
+    }
+}
