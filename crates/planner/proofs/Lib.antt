@@ -4,3 +4,4 @@ pub mod Planned
 pub mod Putting
 pub mod Layering
 pub mod Lambdas
+pub mod Figuring

@@ -1,6 +1,7 @@
 // Planning: from a pack and an order of b records to the placement that document 01 names.
 use refusal::Refusal;
 
+mod figure;
 mod write;
 
 // What planning gives: the placement's length in bytes and its figure, or the refusal.
