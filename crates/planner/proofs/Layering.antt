@@ -60,70 +60,85 @@ rowsBelow-suc r blocks m counts x =
     ∙ ap flatten (flatten-append (map f (upTo x)) (f x ∷ []) ∙ ap (λ (l : List (List ℕ)). flatten (map f (upTo x)) ++ l) (append-nil (f x)))
     ∙ flatten-append (flatten (map f (upTo x))) (f x)
 
+-- each layer's rows, and those of the layers below x, take r bytes a record
+module _ (r s : ℕ) (blocks m counts : List ℕ) (blocks-fit : totalBelow m s * r ≤ length blocks)
+    (some : (x : ℕ) → x < s → 0 < getD counts x 0 → 0 < getD m x 0) where
+  pub length-layerRows : (x : ℕ) → x < s → length (flatten (layerRows r blocks m counts x)) ≡ getD counts x 0 * r
+  length-layerRows x h =
+      length-repeated-rows r (getD m x 0) (getD counts x 0) (drop (totalBelow m x * r) blocks)
+      (rw (length-drop (totalBelow m x * r) blocks) (omega (arith, below-fits m r x s h)))
+      (some x h)
+
+  pub length-rowsBelow : (x : ℕ) → x ≤ s → length (rowsBelow r blocks m counts x) ≡ totalBelow counts x * r
+  unfolding flatten upTo total
+  length-rowsBelow zero h = omega arith
+  length-rowsBelow (suc x) h =
+      rw (rowsBelow-suc r blocks m counts x, length-append (rowsBelow r blocks m counts x), length-rowsBelow x (omega arith), length-layerRows x h, totalBelow-suc counts x)
+      (omega arith)
+
 -- The rows of the layers below x are written. The next layer's begin at byte `to`, and its blocks at byte `from`; from `to`
 -- on the bytes are as they were.
 pub record LayersWritten (out₀ blocks : List ℕ) (r s : ℕ) (m counts out : List ℕ) (to from x : ℕ) : Type 0 where
   pub within : x ≤ s
   pub place : to ≡ totalBelow counts x * r
   pub source : from ≡ totalBelow m x * r
-  pub taken : length (rowsBelow r blocks m counts x) ≡ to
   pub same : length out ≡ length out₀
   pub bytes : out ≡ rowsBelow r blocks m counts x ++ drop to out₀
 
 pub layers-none : (out blocks : List ℕ) (r s : ℕ) (m counts : List ℕ) → LayersWritten out blocks r s m counts out 0 0 0
 unfolding flatten upTo total
 layers-none out blocks r s m counts =
-    record { within = omega arith; place = omega arith; source = omega arith; taken = refl; same = refl; bytes = refl }
+    record { within = omega arith; place = omega arith; source = omega arith; same = refl; bytes = refl }
 
 module _ {out₀ blocks : List ℕ} {r s : ℕ} {m counts out : List ℕ} {to from x : ℕ}
-    (w : LayersWritten out₀ blocks r s m counts out to from x) where
-  module _ (h : x < s) (rows-fit : totalBelow counts s * r ≤ length out₀) (blocks-fit : totalBelow m s * r ≤ length blocks)
-      (some : 0 < getD counts x 0 → 0 < getD m x 0) where
+    (w : LayersWritten out₀ blocks r s m counts out to from x)
+    (rows-fit : totalBelow counts s * r ≤ length out₀) (blocks-fit : totalBelow m s * r ≤ length blocks)
+    (some : (x : ℕ) → x < s → 0 < getD counts x 0 → 0 < getD m x 0) where
+  taken : length (rowsBelow r blocks m counts x) ≡ to
+  taken = length-rowsBelow r s blocks m counts blocks-fit some x (w .within) ∙ sym (w .place)
+
+  -- in a turn
+  module _ (h : x < s) where
     pub layer-fits : to + getD counts x 0 * r ≤ length out
     layer-fits = omega (arith, below-fits counts r x s h, w .place, w .same)
 
     pub blocks-within : from + getD m x 0 * r ≤ length blocks
     blocks-within = omega (arith, below-fits m r x s h, w .source)
 
-    -- the part of the blocks that is lent
-    abbrev pub lentBlocks : List ℕ
-    lentBlocks = take (length blocks - from) (drop from blocks)
-
-    pub lent-blocks-fit : getD m x 0 * r ≤ length lentBlocks
+    pub lent-blocks-fit : getD m x 0 * r ≤ length (take (length blocks - from) (drop from blocks))
     lent-blocks-fit = rw (take-drop-rest blocks from, length-drop from blocks) (omega (arith, blocks-within))
 
     pub lent-out-fits : getD counts x 0 * r ≤ length (take (length out - to) (drop to out))
     lent-out-fits = rw (take-drop-rest out to, length-drop to out) (omega (arith, layer-fits))
 
-    is-layer : repeated (rowsAt r (getD m x 0) lentBlocks) (getD counts x 0) ≡ layerRows r blocks m counts x
-    is-layer = rw (take-drop-rest blocks from, w .source)
+    -- the next layer's rows
+    abbrev layer : List ℕ
+    layer = flatten (layerRows r blocks m counts x)
 
-    length-layer : length (flatten (layerRows r blocks m counts x)) ≡ getD counts x 0 * r
-    length-layer =
-        ap (λ (l : List (List ℕ)). length (flatten l)) (sym is-layer)
-        ∙ length-repeated-rows r (getD m x 0) (getD counts x 0) lentBlocks lent-blocks-fit some
+    length-layer : length layer ≡ getD counts x 0 * r
+    length-layer = length-layerRows r s blocks m counts blocks-fit some x h
 
     module _ (last : List ℕ)
-        (e : last ≡ flatten (repeated (rowsAt r (getD m x 0) lentBlocks) (getD counts x 0)) ++ drop (getD counts x 0 * r) (take (length out - to) (drop to out))) where
-      wrote : givenBack out to last ≡ rowsBelow r blocks m counts x ++ flatten (layerRows r blocks m counts x) ++ drop (to + length (flatten (layerRows r blocks m counts x))) out₀
+        (e : last
+        ≡ flatten (repeated (rowsAt r (getD m x 0) (take (length blocks - from) (drop from blocks))) (getD counts x 0))
+        ++ drop (getD counts x 0 * r) (take (length out - to) (drop to out))) where
+      wrote : givenBack out to last ≡ rowsBelow r blocks m counts x ++ layer ++ drop (to + length layer) out₀
       wrote =
-          write-part
-          (rowsBelow r blocks m counts x) (flatten (layerRows r blocks m counts x)) out₀ out last to (w .taken) (w .bytes)
-          (e ∙ rw (is-layer, length-layer))
+          write-part (rowsBelow r blocks m counts x) layer out₀ out last to taken (w .bytes)
+          (e ∙ rw (take-drop-rest blocks from, w .source, length-layer))
 
       next-bytes : givenBack out to last ≡ rowsBelow r blocks m counts (x + 1) ++ drop (to + getD counts x 0 * r) out₀
       next-bytes = wrote ∙ rw (length-layer, add-one x, rowsBelow-suc r blocks m counts x)
 
       next-taken : length (rowsBelow r blocks m counts (x + 1)) ≡ to + getD counts x 0 * r
       next-taken =
-          rw (add-one x, rowsBelow-suc r blocks m counts x, length-append (rowsBelow r blocks m counts x), w .taken, length-layer)
+          rw (add-one x, rowsBelow-suc r blocks m counts x, length-append (rowsBelow r blocks m counts x), taken, length-layer)
 
       pub layers-next : LayersWritten out₀ blocks r s m counts (givenBack out to last) (to + getD counts x 0 * r) (from + getD m x 0 * r) (x + 1)
       layers-next = record {
         within = omega arith;
         place = rw (add-one x, totalBelow-suc counts x) (omega (arith, w .place));
         source = rw (add-one x, totalBelow-suc m x) (omega (arith, w .source));
-        taken = next-taken;
         same = ap length next-bytes ∙ simp (length-append, length-drop) (omega (arith, next-taken, layer-fits, w .same));
         bytes = next-bytes;
       }
@@ -131,5 +146,5 @@ module _ {out₀ blocks : List ℕ} {r s : ℕ} {m counts out : List ℕ} {to fr
   pub layers-all : s ≤ x → out ≡ beginning (rowsBelow r blocks m counts s) out₀
   layers-all h =
       let all : x ≡ s = omega (arith, w .within) in
-      let e : out ≡ beginning (rowsBelow r blocks m counts x) out₀ = rw (w .taken) (w .bytes) in
+      let e : out ≡ beginning (rowsBelow r blocks m counts x) out₀ = rw taken (w .bytes) in
       rw (← all) e

@@ -5,3 +5,5 @@ pub mod Putting
 pub mod Layering
 pub mod Lambdas
 pub mod Figuring
+pub mod Arrays
+pub mod Committed

@@ -4,10 +4,16 @@ ghost use Prim.Native.Nat.{ℕ, _+_, _*_, _≤_, _<_};
 ghost use mathlib.Core.List.{_∷_, _++_};
 ghost use lib.ListN.{length, getD, take, drop};
 ghost use Rattle.lists.specs.Lists.{All};
+ghost use Rattle.refusal.specs.Checked.{accepted};
 ghost use Rattle.number.specs.Numbers.{largestNumber, numberBytes};
-ghost use Rattle.layers.specs.Layers.{headNumbers};
+ghost use Rattle.layers.specs.Layers.{headNumbers, sizes};
 ghost use Rattle.split.specs.Splits.{copiesFor};
+ghost use Rattle.planner.specs.Planning.{outputNeeded, outputAfter};
+ghost use Rattle.planner.specs.Answers.{planAnswer};
 ghost use Rattle.planner.specs.Writing.{formsOf, beginning, arrayHeads, totalBelow, lambdaOf, rowsBelow};
+ghost use Rattle.planner.specs.Writing.{arrayPack, countsPlacement, Writable};
+use crate::PlanAnswer;
+use crate::figure::figure;
 use number::NumberWritten;
 
 // Writes `v` at place `at`. Returns the place after it.
@@ -127,5 +133,39 @@ fn write_layers(
         to += count * r;
         from += size * r;
         x += 1;
+    }
+}
+
+// Writes the placement of the split with these counts and the least copies to the start of `out`. `blocks` has the pack's
+// blocks. Returns its length and figure.
+pub fn write_placement(
+    out: &mut [u8],
+    blocks: &[u8],
+    n: usize,
+    r: usize,
+    mu: [usize; 5],
+    m: [usize; 5],
+    s: usize,
+    k: usize,
+    b: usize,
+    counts: [usize; 5],
+) -> PlanAnswer
+    requires { ⌜ Writable (arrayPack n r mu m (now blocks)) s k b counts ⌝ }
+    requires { ⌜ sizes (arrayHeads r mu m) * r ≤ length (now blocks) ⌝ }
+    requires { ⌜ outputNeeded b r ≤ length (now out) ⌝ }
+    ensures { λ answer. ⌜ (answer
+        ≡ planAnswer (accepted (countsPlacement (arrayPack n r mu m (now (blocks .entry))) s k b counts)) .answer)
+        × (now (out .exit)
+        ≡ outputAfter (accepted (countsPlacement (arrayPack n r mu m (now (blocks .entry))) s k b counts)) (now (out .entry))) ⌝ }
+{
+    let lambda = lambdas(mu, m, counts, s);
+    let survivors = figure(s, k, b, lambda, counts);
+    let head = head_numbers(n, r, s, k, b, survivors, lambda, counts);
+    let numbers = 7 + 2 * s;
+    let at = write_numbers(out, &head[0..numbers]);
+    write_layers(&mut out[at..], blocks, r, s, m, counts);
+    PlanAnswer::Planned {
+        length: at + b * r,
+        figure: survivors,
     }
 }

@@ -22,7 +22,7 @@ rows-within c =
     let s = c .before .before .before .before in
     let l = c .before .loop in
     let t = c .loop-test .taken in
-    layer-fits (l .inv) t (s .pre .1 .0) (s .pre .1 .1 .0) (s .pre .1 .1 .1 (l .x) t)
+    layer-fits (l .inv) (s .pre .1 .0) (s .pre .1 .1 .0) (s .pre .1 .1 .1) t
 
 blocks-in : (c : tie.In-loop Inv-loop μ-loop)
     → c .before .loop .from + getD (c .before .before .before .before .args .t5) (c .before .loop .x) 0 * c .before .before .before .before .args .r ≤ length (c .before .before .before .before .args .blocks .now)
@@ -30,7 +30,7 @@ blocks-in c =
     let s = c .before .before .before .before in
     let l = c .before .loop in
     let t = c .loop-test .taken in
-    blocks-within (l .inv) t (s .pre .1 .0) (s .pre .1 .1 .0) (s .pre .1 .1 .1 (l .x) t)
+    blocks-within (l .inv) (s .pre .1 .0) (s .pre .1 .1 .0) (s .pre .1 .1 .1) t
 
 -- src/write.rt:101:5
 loop-holds : tie.Need-loop-holds Inv-loop μ-loop
@@ -83,8 +83,10 @@ write-rows-requires c κs =
     let s = turn .before .before .before .before in
     let l = turn .before .loop in
     let t = turn .loop-test .taken in
-    let some = s .pre .1 .1 .1 (l .x) t in
-    (lent-out-fits (l .inv) t (s .pre .1 .0) (s .pre .1 .1 .0) some, (lent-blocks-fit (l .inv) t (s .pre .1 .0) (s .pre .1 .1 .0) some, some))
+    let some = s .pre .1 .1 .1 in (
+      lent-out-fits (l .inv) (s .pre .1 .0) (s .pre .1 .1 .0) some t,
+      (lent-blocks-fit (l .inv) (s .pre .1 .0) (s .pre .1 .1 .0) some t, some (l .x) t),
+    )
 
 -- src/write.rt:105:15
 mul-to : tie.Need-mul-to Inv-loop μ-loop
@@ -118,7 +120,7 @@ loop-again c =
     let l = turn .before .loop in
     let t = turn .loop-test .taken in
     let w = c .before .before .write-rows in
-    layers-next (l .inv) t (s .pre .1 .0) (s .pre .1 .1 .0) (s .pre .1 .1 .1 (l .x) t) (w .last .0) (w .ensures)
+    layers-next (l .inv) (s .pre .1 .0) (s .pre .1 .1 .0) (s .pre .1 .1 .1) t (w .last .0) (w .ensures)
 
 -- src/write.rt:91:1
 same-length : tie.Need-same-length Inv-loop μ-loop
@@ -126,7 +128,9 @@ same-length c = c .before .loop .inv .same
 
 -- src/write.rt:91:1
 returns : tie.Need-returns Inv-loop μ-loop
-returns c = layers-all (c .before .loop .inv) (c .loop-test .left)
+returns c =
+    let s = c .before .before .before .before in
+    layers-all (c .before .loop .inv) (s .pre .1 .0) (s .pre .1 .1 .0) (s .pre .1 .1 .1) (c .loop-test .left)
 
 pub write-layers-spec : {M : Type 1} → statement M
 write-layers-spec =
