@@ -43,7 +43,7 @@ module _ (mu m : List ℕ) where
   pub layerAt-arrayHeads : (r x : ℕ) → x < r → layerAt (arrayHeads r mu m) x ≡ headAt x
   layerAt-arrayHeads r x h = getD-map-upTo headAt r x (record { bound = 0; size = 0 }) h
 
-  take-arrayHeads : (r x : ℕ) → x ≤ r → take x (arrayHeads r mu m) ≡ arrayHeads x mu m
+  pub take-arrayHeads : (r x : ℕ) → x ≤ r → take x (arrayHeads r mu m) ≡ arrayHeads x mu m
   take-arrayHeads r x h =
       take-map-upTo headAt (arrayHeads r mu m) (record { bound = 0; size = 0 }) x (rw (length-map-upTo headAt r) h)
       (λ i lt. layerAt-arrayHeads r i (omega arith))

@@ -7,3 +7,4 @@ pub mod Lambdas
 pub mod Figuring
 pub mod Arrays
 pub mod Committed
+pub mod Steps

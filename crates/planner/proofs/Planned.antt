@@ -32,7 +32,7 @@ mu-most layers x h =
     (all-imp _ (λ layer. layer .bound ≤ 4_096) (λ layer g. g .1) layers h)
 
 -- an order within limits passes the check of s, k and b
-order-accepted : (pack : Pack) (s k b : ℕ) → OrderLimits pack s k b → checkOrder pack s k b ≡ accepted tt
+pub order-accepted : (pack : Pack) (s k b : ℕ) → OrderLimits pack s k b → checkOrder pack s k b ≡ accepted tt
 unfolding checkOrder
 order-accepted pack s k b o =
     rw (le-leb 1 s (o .s-least), le-leb s (pack .r) (o .s-most), le-leb s k (o .k-least), lt-ltb k (pack .n) (o .k-most), le-leb 1 b (o .b-least), le-leb b 4_096 (o .b-most))

@@ -2,6 +2,7 @@
 use refusal::Refusal;
 
 mod figure;
+mod order;
 mod write;
 
 // What planning gives: the placement's length in bytes and its figure, or the refusal.
