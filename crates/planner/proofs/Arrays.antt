@@ -17,8 +17,9 @@ use Rattle.split.specs.Splits.{Share, Split, layerAt, copiesFor, shareOf, share
 use Rattle.split.proofs.Bounds.{copiesFor-mul-bound-le}
 use Rattle.split.proofs.Heads.{split-count-le}
 use Rattle.rows.proofs.Lists.{take-map-upTo}
+use Rattle.layers.specs.Answers.{arrayHeads}
 use Rattle.planner.specs.Planning.{blocksAt, placed, splitPlacement, OrderLimits}
-use Rattle.planner.specs.Writing.{arrayHeads, totalBelow, lambdaOf, layerRows, arrayPack, leastCopies, countsPlacement, Writable}
+use Rattle.planner.specs.Writing.{totalBelow, lambdaOf, layerRows, arrayPack, leastCopies, countsPlacement, Writable}
 use Rattle.planner.proofs.Layering.{totalBelow-mono, totalBelow-suc}
 use Rattle.planner.proofs.Placed.{layer-all, layerAt-heads}
 

@@ -16,10 +16,11 @@ use Rattle.placement.proofs.Written.{written-file, written-length}
 use Rattle.split.specs.Splits.{layerAt, splitHeads}
 use Rattle.rows.proofs.Lists.{take-drop-rest, write-part}
 use Rattle.rows.proofs.Written.{givenBack}
+use Rattle.layers.specs.Answers.{arrayHeads}
 use Rattle.planner.specs.Planning.{splitPlacement, outputNeeded, outputAfter}
 use Rattle.planner.specs.Answers.{planAnswer}
 use Rattle.planner.specs.declared.PlanAnswer.the-variants.{Planned}
-use Rattle.planner.specs.Writing.{formsOf, beginning, arrayHeads, totalBelow, lambdaOf, rowsBelow, arrayPack, leastCopies, countsPlacement, Writable}
+use Rattle.planner.specs.Writing.{formsOf, beginning, totalBelow, lambdaOf, rowsBelow, arrayPack, leastCopies, countsPlacement, Writable}
 use Rattle.planner.proofs.Layering.{length-rowsBelow}
 use Rattle.planner.proofs.Placed.{heads-placed, placed-good}
 use Rattle.planner.proofs.Arrays.{counts-sum, blocks-held, lambda-most, splitHeads-are, allRows-are, blocks-fit, layerAt-is}

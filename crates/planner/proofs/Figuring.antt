@@ -12,7 +12,8 @@ use Rattle.binomial.specs.Choose.{choose}
 use Rattle.layers.specs.Layers.{LayerHead}
 use Rattle.placement.specs.Figure.{loss, losses, figureOf}
 use Rattle.split.proofs.Losses.{losses-append, loss-le-size}
-use Rattle.planner.specs.Writing.{arrayHeads, totalBelow}
+use Rattle.layers.specs.Answers.{arrayHeads}
+use Rattle.planner.specs.Writing.{totalBelow}
 use Rattle.planner.proofs.Layering.{totalBelow-suc, totalBelow-mono}
 
 -- the loss from its binomials

@@ -8,3 +8,5 @@ pub mod Figuring
 pub mod Arrays
 pub mod Committed
 pub mod Steps
+pub mod Chosen
+pub mod Found

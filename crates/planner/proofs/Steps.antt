@@ -20,9 +20,10 @@ use Rattle.layers.specs.Layers.{Layer, LayerHead, headsOf}
 use Rattle.layers.proofs.Layouts.{headsOf-layersAt}
 use Rattle.pack.specs.Pack.{Pack, checkPack}
 use Rattle.split.specs.Splits.{hasBlock}
+use Rattle.layers.specs.Answers.{arrayHeads}
 use Rattle.planner.specs.Planning.{OrderLimits, checkOrder, namedPlacement, splitPlacement, planned, plan, workNeeded, outputNeeded}
 use Rattle.planner.specs.Steps.{checkSteps, planPack, orderAnswer}
-use Rattle.planner.specs.Writing.{arrayHeads, arrayPack}
+use Rattle.planner.specs.Writing.{arrayPack}
 use Rattle.planner.specs.declared.order.OrderAnswer.{OrderAnswer}
 use Rattle.planner.specs.declared.order.OrderAnswer.the-variants.{Good, Refused}
 use Rattle.planner.proofs.Arrays.{take-arrayHeads}

@@ -5,7 +5,8 @@ use lib.ListN.{length, getD, drop}
 use Rattle.lists.specs.Lists.{total, upTo}
 use Rattle.number.specs.Numbers.{numberBytes}
 use Rattle.packing.specs.Rows.{rowsAt, repeated}
-use Rattle.layers.specs.Layers.{LayerHead, headsOf, layersAt}
+use Rattle.layers.specs.Layers.{LayerHead, sizes, headsOf, layersAt}
+use Rattle.layers.specs.Answers.{arrayHeads}
 use Rattle.pack.specs.Pack.{Pack, GoodPack}
 use Rattle.placement.specs.Placement.{Placement}
 use Rattle.split.specs.Splits.{Share, Split, layerAt, copiesFor, shareOf}
@@ -18,10 +19,6 @@ formsOf numbers = flatten (map numberBytes numbers)
 -- the slice with `bytes` at its start: "bytes or entries past the written length don't change"
 abbrev pub beginning : (bytes slice : List ℕ) → List ℕ
 beginning bytes slice = bytes ++ drop (length bytes) slice
-
--- the two numbers of each of the first layers, from the code's two arrays
-abbrev pub arrayHeads : (layers : ℕ) (bound size : List ℕ) → List LayerHead
-arrayHeads layers bound size = map (λ x. record { bound = getD bound x 0; size = getD size x 0 }) (upTo layers)
 
 -- the sum of an array's entries below x
 abbrev pub totalBelow : (array : List ℕ) (x : ℕ) → ℕ
@@ -57,3 +54,10 @@ pub record Writable (pack : Pack) (s k b : ℕ) (counts : List ℕ) : Type 0 whe
   pub good : GoodPack pack
   pub order : OrderLimits pack s k b
   pub is-split : Split (headsOf (pack .layers)) s b (leastCopies (headsOf (pack .layers)) counts)
+
+-- what planning on a pack asks of its numbers and its blocks, as the code has them
+pub record PackHeld (n r : ℕ) (mu m blocks : List ℕ) : Type 0 where
+  pub good : GoodPack (arrayPack n r mu m blocks)
+  pub mu-most : (x : ℕ) → getD mu x 0 ≤ 4_096
+  pub m-most : (x : ℕ) → getD m x 0 ≤ 4_096
+  pub whole : sizes (arrayHeads r mu m) * r ≤ length blocks

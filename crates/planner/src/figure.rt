@@ -3,7 +3,8 @@ ghost use mathlib.Core.Path.{_≡_};
 ghost use Prim.Native.Nat.{ℕ, _≤_, _<_, min};
 ghost use lib.ListN.{getD};
 ghost use Rattle.placement.specs.Figure.{loss, figureOf};
-ghost use Rattle.planner.specs.Writing.{arrayHeads, totalBelow};
+ghost use Rattle.layers.specs.Answers.{arrayHeads};
+ghost use Rattle.planner.specs.Writing.{totalBelow};
 
 fn smaller(a: usize, b: usize) -> usize
     ensures { λ r. ⌜ r ≡ min a b ⌝ }
