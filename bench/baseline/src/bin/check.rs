@@ -1,0 +1,3 @@
+fn main() {
+    baseline::write_output(&baseline::check_reply(&baseline::read_input()));
+}

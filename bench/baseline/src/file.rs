@@ -1,0 +1,182 @@
+//! Packs and placements: heads, row order and loads, packing, the figure.
+
+use crate::crowding::Counter;
+use crate::number::{Reader, Refusal, refused};
+
+/// A layer's bound (mu or lambda) and its number of rows.
+#[derive(Clone, Copy, Default)]
+pub struct Layer {
+    pub bound: usize,
+    pub size: usize,
+}
+
+pub struct Pack<'a> {
+    pub n: usize,
+    pub r: usize,
+    pub layers: [Layer; 5],
+    pub rows: &'a [u8],
+}
+
+pub struct Placement {
+    pub n: usize,
+    pub r: usize,
+    pub k: usize,
+    pub b: usize,
+    pub figure: usize,
+    pub most: usize,
+}
+
+impl<'a> Pack<'a> {
+    pub fn check(bytes: &'a [u8]) -> Result<Self, Refusal> {
+        let mut head = Reader::new(bytes);
+        head.kind(1)?;
+        let n = head.within(2, 255)?;
+        let r = head.within(2, n.min(5))?;
+        let mut layers = [Layer::default(); 5];
+        let mut size = 0;
+        for layer in &mut layers[..r] {
+            layer.bound = head.within(1, 4096)?;
+            layer.size = head.within(0, 4096 - size)?;
+            size += layer.size;
+        }
+        let rows = rows_after(&head, size * r)?;
+        check_rows(rows, head.at, n, r, &layers[..r])?;
+        Ok(Pack { n, r, layers, rows })
+    }
+}
+
+impl Placement {
+    pub fn check(bytes: &[u8]) -> Result<Self, Refusal> {
+        let mut head = Reader::new(bytes);
+        head.kind(2)?;
+        let n = head.within(2, 255)?;
+        let r = head.within(2, n.min(5))?;
+        let s = head.within(1, r)?;
+        let k = head.within(s, n - 1)?;
+        let b = head.within(1, 4096)?;
+        let figure_at = head.at;
+        let figure = head.within(0, b)?;
+        let mut layers = [Layer::default(); 5];
+        let mut left = b;
+        let mut lost = 0;
+        for (x, layer) in layers[..s].iter_mut().enumerate() {
+            layer.bound = head.within(0, 16_777_216)?;
+            layer.size = head.within(if x == s - 1 { left } else { 0 }, left)?;
+            left -= layer.size;
+            lost += layer.size.min(layer.bound * choose(k, x + 1) / choose(s, x + 1));
+        }
+        let rows = rows_after(&head, b * r)?;
+        let most = check_rows(rows, head.at, n, r, &layers[..s])?;
+        if figure != b - lost {
+            return refused(8, figure_at);
+        }
+        Ok(Placement { n, r, k, b, figure, most })
+    }
+}
+
+/// C(m, j) for m up to 255 and j up to 5.
+pub fn choose(m: usize, j: usize) -> usize {
+    (0..j).fold(1, |c, i| c * (m - i.min(m)) / (i + 1))
+}
+
+fn rows_after<'a>(head: &Reader<'a>, size: usize) -> Result<&'a [u8], Refusal> {
+    let rows = &head.bytes[head.at..];
+    if rows.len() < size {
+        return refused(1, head.bytes.len());
+    }
+    if rows.len() > size {
+        return refused(5, head.at + size);
+    }
+    Ok(rows)
+}
+
+/// Tests the rows' order and each layer's packing. The largest number of rows that hold one node.
+fn check_rows(rows: &[u8], at: usize, n: usize, r: usize, layers: &[Layer]) -> Result<usize, Refusal> {
+    match r {
+        2 => check_rows_of::<2>(rows, at, n, layers),
+        3 => check_rows_of::<3>(rows, at, n, layers),
+        4 => check_rows_of::<4>(rows, at, n, layers),
+        _ => check_rows_of::<5>(rows, at, n, layers),
+    }
+}
+
+fn check_rows_of<const R: usize>(bytes: &[u8], at: usize, n: usize, layers: &[Layer]) -> Result<usize, Refusal> {
+    let (rows, _) = bytes.as_chunks::<R>();
+    let mut loads = [0u16; 256];
+    // The loads after layer 0 are that layer's counts of single nodes.
+    let (single, others) = rows.split_at(layers[0].size);
+    let in_order = add_loads(single, n, &mut loads);
+    let crowded_node = most(&loads) > layers[0].bound;
+    if let Err(i) = in_order.and_then(|()| add_loads(others, n, &mut loads).map_err(|i| single.len() + i)) {
+        return refused(6, at + i * R);
+    }
+    if crowded_node {
+        return refused(7, at + first_loaded(single, layers[0].bound) * R);
+    }
+    let mut counter = None;
+    let mut done = single.len();
+    for (x, layer) in layers.iter().enumerate().skip(1) {
+        if layer.size > layer.bound {
+            let mine = &rows[done..done + layer.size];
+            let counter = counter.get_or_insert_with(|| Counter::new(n));
+            if let Some(i) = counter.first_crowded(mine, x + 1, layer.bound) {
+                return refused(7, at + (done + i) * R);
+            }
+        }
+        done += layer.size;
+    }
+    Ok(most(&loads))
+}
+
+fn most(loads: &[u16; 256]) -> usize {
+    usize::from(loads.iter().copied().max().unwrap_or(0))
+}
+
+/// Adds each row's nodes to the loads, up to the first row that is not ascending below n: that one's index.
+fn add_loads<const R: usize>(rows: &[[u8; R]], n: usize, loads: &mut [u16; 256]) -> Result<(), usize> {
+    for (i, row) in rows.iter().enumerate() {
+        let mut good = usize::from(row[R - 1]) < n;
+        for j in 1..R {
+            good &= row[j - 1] < row[j];
+        }
+        if !good {
+            return Err(i);
+        }
+        for &node in row {
+            loads[usize::from(node)] += 1;
+        }
+    }
+    Ok(())
+}
+
+/// The first row with a node that more than `bound` of these rows hold; there is one.
+#[cold]
+fn first_loaded<const R: usize>(rows: &[[u8; R]], bound: usize) -> usize {
+    let mut loads = [0; 256];
+    for &node in rows.as_flattened() {
+        loads[usize::from(node)] += 1;
+    }
+    rows.iter().position(|row| row.iter().any(|&node| loads[usize::from(node)] > bound)).unwrap_or(0)
+}
+
+#[cfg(test)]
+mod tests {
+    use super::*;
+
+    #[test]
+    fn binomials() {
+        assert_eq!(choose(5, 2), 10);
+        assert_eq!(choose(2, 3), 0);
+        assert_eq!(choose(0, 0), 1);
+        assert_eq!(choose(254, 5), 8_468_125_050);
+    }
+
+    #[test]
+    fn the_first_row_out_of_order_is_named() {
+        let mut loads = [0; 256];
+        assert_eq!(add_loads(&[[0, 1, 2], [3, 4, 6]], 7, &mut loads), Ok(()));
+        assert_eq!(add_loads(&[[0, 1, 2], [3, 4, 7]], 7, &mut loads), Err(1));
+        assert_eq!(add_loads(&[[0, 1, 1], [3, 4, 7]], 7, &mut loads), Err(0));
+        assert_eq!(add_loads(&[[2, 1, 3]], 7, &mut loads), Err(0));
+    }
+}

@@ -1,0 +1,174 @@
+//! Document 01's programs `check` and `plan` in plain Rust: the mark that the proved programs are measured against.
+
+pub mod crowding;
+pub mod file;
+pub mod number;
+pub mod split;
+pub mod text;
+
+use std::fs::File;
+use std::io::{Read, Write};
+use std::mem::ManuallyDrop;
+use std::os::fd::FromRawFd;
+
+use file::{Pack, Placement};
+use number::{Reader, Refusal, push_number, refused};
+use split::{Fill, Rule};
+
+/// All of standard input.
+pub fn read_input() -> Vec<u8> {
+    // SAFETY: descriptor 0 is open from the start and is never closed here.
+    let mut input = ManuallyDrop::new(unsafe { File::from_raw_fd(0) });
+    let mut bytes = Vec::new();
+    if input.read_to_end(&mut bytes).is_err() {
+        std::process::exit(1);
+    }
+    bytes
+}
+
+pub fn write_output(bytes: &[u8]) {
+    // SAFETY: descriptor 1 is open from the start and is never closed here.
+    let mut output = ManuallyDrop::new(unsafe { File::from_raw_fd(1) });
+    if output.write_all(bytes).is_err() {
+        std::process::exit(1);
+    }
+}
+
+/// What `check` prints for these bytes.
+pub fn check_reply(input: &[u8]) -> Vec<u8> {
+    match Placement::check(input) {
+        Ok(p) => {
+            let mean = (2 * p.b * p.r + p.n) / (2 * p.n);
+            text::line("accepted", &[p.figure, p.b, p.k, p.n, p.most, mean])
+        }
+        Err(e) => refused_line(e),
+    }
+}
+
+/// What `plan` writes for these bytes.
+pub fn plan_reply(input: &[u8], fill: Fill) -> Vec<u8> {
+    plan(input, fill).unwrap_or_else(refused_line)
+}
+
+fn refused_line(e: Refusal) -> Vec<u8> {
+    text::line("refused", &[e.number, e.place])
+}
+
+fn plan(input: &[u8], fill: Fill) -> Result<Vec<u8>, Refusal> {
+    let mut head = Reader::new(input);
+    let mut order = [0; 3];
+    for (index, value) in order.iter_mut().enumerate() {
+        *value = head.number().map_err(|_| Refusal { number: 12, place: index })?;
+    }
+    let [s, k, b] = order;
+    let pack = Pack::check(&input[head.at..])?;
+    if !(1..=pack.r).contains(&s) {
+        return refused(12, 0);
+    }
+    if !(s..pack.n).contains(&k) {
+        return refused(12, 1);
+    }
+    if !(1..=4096).contains(&b) {
+        return refused(12, 2);
+    }
+    let layers = &pack.layers[..s];
+    if layers.iter().all(|layer| layer.size == 0) {
+        return refused(9, 0);
+    }
+    let mut rules = [Rule::default(); 5];
+    for (x, layer) in layers.iter().enumerate() {
+        rules[x] = Rule::new(s, k, x, layer);
+    }
+    let counts = split::named(&rules[..s], b, fill);
+    Ok(placement(&pack, &rules[..s], &counts, [s, k, b]))
+}
+
+/// The placement of these counts: row j of a layer is its block j mod m.
+fn placement(pack: &Pack, rules: &[Rule], counts: &[usize; 5], [s, k, b]: [usize; 3]) -> Vec<u8> {
+    let lost: usize = rules.iter().zip(counts).map(|(rule, &c)| rule.loss(c)).sum();
+    let mut out = Vec::with_capacity(64 + b * pack.r);
+    for v in [2, pack.n, pack.r, s, k, b, b - lost] {
+        push_number(&mut out, v);
+    }
+    for (x, rule) in rules.iter().enumerate() {
+        push_number(&mut out, rule.copies(counts[x]) * pack.layers[x].bound);
+        push_number(&mut out, counts[x]);
+    }
+    let mut blocks = pack.rows;
+    for (layer, &count) in pack.layers[..s].iter().zip(counts) {
+        let (mine, rest) = blocks.split_at(layer.size * pack.r);
+        blocks = rest;
+        let start = out.len();
+        let end = start + count * pack.r;
+        out.extend_from_slice(&mine[..mine.len().min(end - start)]);
+        // What is there already is whole copies of the blocks, so it may be repeated.
+        while out.len() < end {
+            out.extend_from_within(start..out.len().min(start + end - out.len()));
+        }
+    }
+    out
+}
+
+#[cfg(test)]
+mod tests {
+    use super::*;
+
+    const ROWS: [u8; 27] = [0, 1, 2, 3, 4, 5, 0, 1, 2, 0, 3, 4, 0, 5, 6, 1, 3, 5, 1, 4, 6, 2, 3, 6, 2, 4, 5];
+
+    fn seven_cabinets() -> Vec<u8> {
+        [&[1, 7, 3, 1, 2, 1, 7, 1, 0], &ROWS[..]].concat()
+    }
+
+    fn both(input: &[u8]) -> Vec<u8> {
+        let reply = plan_reply(input, split::by_recurrence);
+        assert_eq!(reply, plan_reply(input, split::by_candidates));
+        reply
+    }
+
+    #[test]
+    fn the_nine_records_are_planned_and_accepted() {
+        let order = [&[2, 3, 9], &seven_cabinets()[..]].concat();
+        let placement = [&[2, 7, 3, 2, 3, 9, 5, 1, 2, 1, 7], &ROWS[..]].concat();
+        assert_eq!(both(&order), placement);
+        assert_eq!(check_reply(&placement), b"accepted 5 9 3 7 4 4\n");
+    }
+
+    #[test]
+    fn figures_of_seven_cabinets() {
+        for (s, k, b, figure) in [(2, 2, 7, 6), (2, 3, 7, 4), (2, 3, 9, 5), (2, 2, 9, 7), (3, 4, 7, 5), (2, 2, 1, 0)] {
+            let reply = both(&[&[s, k, b], &seven_cabinets()[..]].concat());
+            assert_eq!(reply[6], figure, "s {s}, k {k}, b {b}");
+            assert!(check_reply(&reply).starts_with(b"accepted"));
+        }
+    }
+
+    #[test]
+    fn a_pair_in_two_rows_is_refused_at_the_first() {
+        let mut order = [&[2, 3, 9], &seven_cabinets()[..]].concat();
+        let last = order.len() - 1;
+        order[last] = 6;
+        assert_eq!(both(&order), b"refused 7 27\n");
+    }
+
+    #[test]
+    fn orders_are_refused_after_the_pack() {
+        for (order, reply) in [
+            (&[0, 3, 9][..], "refused 12 0\n"),
+            (&[2, 7, 9], "refused 12 1\n"),
+            (&[2, 3, 129, 32], "refused 12 2\n"),
+            (&[128, 0, 3, 9], "refused 12 0\n"),
+        ] {
+            assert_eq!(both(&[order, &seven_cabinets()].concat()), reply.as_bytes());
+        }
+        assert_eq!(both(&[2, 3, 9]), b"refused 1 0\n");
+        assert_eq!(both(&[2, 3]), b"refused 12 2\n");
+        assert_eq!(both(&[1, 2, 5, 1, 3, 2, 1, 0, 1, 1, 0, 1]), b"refused 9 0\n");
+    }
+
+    #[test]
+    fn the_largest_order_is_planned() {
+        let reply = both(&[&[2, 3, 128, 32], &seven_cabinets()[..]].concat());
+        assert_eq!(reply.len(), 15 + 3 * 4096);
+        assert!(check_reply(&reply).starts_with(b"accepted "));
+    }
+}

@@ -1,0 +1,97 @@
+//! Numbers of one to four groups of seven bits, lowest group first, and refusals.
+
+#[derive(Clone, Copy, Debug, PartialEq, Eq)]
+pub struct Refusal {
+    pub number: usize,
+    pub place: usize,
+}
+
+pub fn refused<T>(number: usize, place: usize) -> Result<T, Refusal> {
+    Err(Refusal { number, place })
+}
+
+/// Bytes and the place of the next number in them.
+pub struct Reader<'a> {
+    pub bytes: &'a [u8],
+    pub at: usize,
+}
+
+impl<'a> Reader<'a> {
+    pub fn new(bytes: &'a [u8]) -> Self {
+        Reader { bytes, at: 0 }
+    }
+
+    #[inline]
+    pub fn number(&mut self) -> Result<usize, Refusal> {
+        let start = self.at;
+        let mut value = 0;
+        for group in 0..4 {
+            let Some(&byte) = self.bytes.get(start + group) else {
+                return refused(1, self.bytes.len());
+            };
+            value |= usize::from(byte & 127) << (7 * group);
+            if byte < 128 {
+                if byte == 0 && group > 0 {
+                    break;
+                }
+                self.at = start + group + 1;
+                return Ok(value);
+            }
+        }
+        refused(2, start)
+    }
+
+    #[inline]
+    pub fn within(&mut self, least: usize, most: usize) -> Result<usize, Refusal> {
+        let start = self.at;
+        let value = self.number()?;
+        if value < least || value > most { refused(4, start) } else { Ok(value) }
+    }
+
+    pub fn kind(&mut self, kind: usize) -> Result<(), Refusal> {
+        if self.number()? == kind { Ok(()) } else { refused(3, 0) }
+    }
+}
+
+pub fn push_number(out: &mut Vec<u8>, mut value: usize) {
+    while value >= 128 {
+        out.push(value as u8 | 128);
+        value >>= 7;
+    }
+    out.push(value as u8);
+}
+
+#[cfg(test)]
+mod tests {
+    use super::*;
+
+    #[test]
+    fn numbers_at_their_edges_are_read_as_written() {
+        for (value, form) in [
+            (0, &[0][..]),
+            (127, &[127]),
+            (128, &[128, 1]),
+            (300, &[172, 2]),
+            (16_384, &[128, 128, 1]),
+            (268_435_455, &[255, 255, 255, 127]),
+        ] {
+            let mut out = Vec::new();
+            push_number(&mut out, value);
+            assert_eq!(out, form);
+            assert_eq!(Reader::new(form).number(), Ok(value));
+        }
+    }
+
+    #[test]
+    fn bad_forms_are_refused() {
+        for (form, number, place) in [
+            (&[][..], 1, 0),
+            (&[255, 255], 1, 2),
+            (&[128, 0], 2, 0),
+            (&[128, 128, 128, 128], 2, 0),
+            (&[255, 255, 255, 0], 2, 0),
+        ] {
+            assert_eq!(Reader::new(form).number(), refused(number, place));
+        }
+    }
+}
