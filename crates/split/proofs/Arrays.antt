@@ -18,6 +18,7 @@ use Rattle.split.specs.Arrays.{arrayHeads}
 use Rattle.split.specs.Table.{termLoss}
 use Rattle.split.proofs.Congruence.{least-congr, lastLeast-congr}
 use Rattle.split.proofs.LeastLoss.{lossAt}
+use Rattle.split.proofs.Choosing.{namedCounts-suc}
 use Rattle.split.proofs.Terms.{lossOf-termLoss, layerAt-arrayHeads}
 
 -- layers that agree below x
@@ -51,8 +52,10 @@ module _ (a b : List LayerHead) (s k : ℕ) where
   namedCounts-congr (suc x) n h =
       let e = bestCount-congr x n h in
       let below = namedCounts-congr x (n - bestCount a s k x n) (λ y g. h y (omega arith)) in
-      ap (λ (l : List ℕ). l ++ (bestCount a s k x n ∷ [])) below
+      namedCounts-suc a s k x n
+      ∙ ap (λ (l : List ℕ). l ++ (bestCount a s k x n ∷ [])) below
       ∙ ap (λ (c : ℕ). namedCounts b s k x (n - c) ++ (c ∷ [])) e
+      ∙ sym (namedCounts-suc b s k x n)
 
 -- one element more, where the default fails the test
 or-false : (t : Bool) → (t || false) ≡ t

@@ -43,6 +43,19 @@ set-first : (l : List ℕ) (v : ℕ) → 0 < length l → v ∷ drop 1 l ≡ set
 set-first [] v h = absurd (omega arith)
 set-first (a ∷ l) v h = refl
 
+-- one layer more
+module _ (layers : List LayerHead) (s k : ℕ) where
+  pub namedCounts-suc : (x left : ℕ) → namedCounts layers s k (suc x) left
+      ≡ namedCounts layers s k x (left - bestCount layers s k x left) ++ (bestCount layers s k x left ∷ [])
+  unfolding namedCounts
+  namedCounts-suc x left = refl
+
+  namedCounts-suc-append : (x left : ℕ) (l : List ℕ) → namedCounts layers s k (suc x) left ++ l
+      ≡ namedCounts layers s k x (left - bestCount layers s k x left) ++ (bestCount layers s k x left ∷ l)
+  namedCounts-suc-append x left l =
+      ap (λ (z : List ℕ). z ++ l) (namedCounts-suc x left)
+      ∙ append-assoc (namedCounts layers s k x (left - bestCount layers s k x left)) (bestCount layers s k x left ∷ []) l
+
 pub record Chosen (layers : List LayerHead) (s k b x left : ℕ) (counts : List ℕ) : Type 0 where
   pub x-lt : x < s
   pub left-le : left ≤ b
@@ -61,12 +74,6 @@ module _ (layers : List LayerHead) (s k b : ℕ) where
             rw q (five-append (namedCounts layers s k s b) s (length-namedCounts layers s k s b) g);
       }
 
-  namedCounts-suc : (x left : ℕ) (l : List ℕ) → namedCounts layers s k (suc x) left ++ l
-      ≡ namedCounts layers s k x (left - bestCount layers s k x left) ++ (bestCount layers s k x left ∷ l)
-  unfolding namedCounts
-  namedCounts-suc x left l =
-      append-assoc (namedCounts layers s k x (left - bestCount layers s k x left)) (bestCount layers s k x left ∷ []) l
-
   -- the count of layer x is chosen
   pub chosen-next : (x left : ℕ) (counts : List ℕ) (c : ℕ) → 1 ≤ x → s ≤ 5 → c ≡ bestCount layers s k x left
       → Chosen layers s k b x left counts → Chosen layers s k b (x - 1) (left - c) (set counts x c)
@@ -81,7 +88,7 @@ module _ (layers : List LayerHead) (s k b : ℕ) where
             let q : suc (x - 1) ≡ x = omega arith in
             let l = f .five-long in
             f .split
-            ∙ namedCounts-suc x left (drop (suc x) counts)
+            ∙ namedCounts-suc-append layers s k x left (drop (suc x) counts)
             ∙ rw (q, drop-set counts x c (omega arith), e) refl;
       }
 
@@ -93,7 +100,7 @@ module _ (layers : List LayerHead) (s k b : ℕ) where
       let fits = f .left-le in
       let l = f .five-long in
       let e = bestCount-zero layers s k left (omega arith) in
-      sym (f .split ∙ namedCounts-suc 0 left (drop 1 counts) ∙ (rw e (set-first counts left (omega arith))))
+      sym (f .split ∙ namedCounts-suc-append layers s k 0 left (drop 1 counts) ∙ (rw e (set-first counts left (omega arith))))
 
   pub best-le : (x left c : ℕ) → c ≡ bestCount layers s k x left → c ≤ left
   best-le x left c e = rw e (bestCount-le layers s k x left)

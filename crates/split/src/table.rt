@@ -22,7 +22,7 @@ fn copy_row(out: &mut [u16], row: &[u16])
 
 // Writes the row of w entries at place `at` from the row before it.
 fn raise_row(work: &mut [u16], at: usize, w: usize, t: LossTerms)
-    requires { ⌜ TermLimits t × (w ≤ 4097) × (w ≤ at) × (at + w ≤ length (now work)) ⌝ }
+    requires { ⌜ TermLimits t × (w ≤ 4097) × (at + w ≤ length (now work)) × (w ≤ at) ⌝ }
     requires { ⌜ Rising (part (at - w) w (now work)) ⌝ }
     ensures { λ _. ⌜ now (work .exit) ≡ put at w (now (work .entry)) (rowAbove t (part (at - w) w (now (work .entry)))) ⌝ }
 {

@@ -92,7 +92,7 @@ raise-row-requires c κs =
     let h = row-end (s .args .s) (s .args .b + 1) (l .x) below in
     let same = l .inv .3 .same-length in
     let fits = l .inv .2 in (
-      (rw (c .terms2 .ensures) limits, omega (arith, limit .b-le), le-mul-row (s .args .b + 1) (l .x) (l .inv .0), omega arith),
+      (rw (c .terms2 .ensures) limits, omega (arith, limit .b-le), omega arith, le-mul-row (s .args .b + 1) (l .x) (l .inv .0)),
       rw (filled-below heads (s .args .s) (s .args .k) (s .args .b + 1) (l .x) _ (l .work) (l .inv .0) (l .inv .3))
           (rising-tableRow heads (s .args .s) (s .args .k) (s .args .b + 1) (l .x - 1)),
     )

@@ -58,7 +58,7 @@ part-next-row-end-2 : tie.Need-part-next-row-end-2
 part-next-row-end-2 c =
     let s = c .before .before .before .before .before .before .before .before in
     let copied = c .before .before .before .copy-row in
-    le-length-copied (s .args .work .now) (s .args .at) (s .args .w) (s .pre .0 .2) (s .pre .0 .3) (copied .last .0) _ (copied .ensures)
+    le-length-copied (s .args .work .now) (s .args .at) (s .args .w) (s .pre .0 .3) (s .pre .0 .2) (copied .last .0) _ (copied .ensures)
 
 next-row-requires : tie.Need-next-row-requires
 next-row-requires c κs =
@@ -68,9 +68,9 @@ next-row-requires c κs =
     let at = s .args .at in
     let w = s .args .w in (
       s .pre .0 .0,
-      rising-copied work at w (s .pre .0 .2) (s .pre .0 .3) (copied .last .0) _ (copied .ensures) (s .pre .1),
-      length-next work at w (s .pre .0 .2) (s .pre .0 .3) (copied .last .0) _ (copied .ensures),
-      length-copied-le work at w (s .pre .0 .2) (s .pre .0 .3) (copied .last .0) _ (copied .ensures) (s .pre .0 .1),
+      rising-copied work at w (s .pre .0 .3) (s .pre .0 .2) (copied .last .0) _ (copied .ensures) (s .pre .1),
+      length-next work at w (s .pre .0 .3) (s .pre .0 .2) (copied .last .0) _ (copied .ensures),
+      length-copied-le work at w (s .pre .0 .3) (s .pre .0 .2) (copied .last .0) _ (copied .ensures) (s .pre .0 .1),
     )
 
 same-length : tie.Need-same-length
@@ -81,8 +81,8 @@ returns c =
     let s = c .before .before .before .before .before .before .before .before .before .before .before .before in
     let copied = c .before .before .before .before .before .before .before .copy-row in
     let made = c .before .before .next-row in
-    let e = take-copied (s .args .work .now) (s .args .at) (s .args .w) (s .pre .0 .2) (s .pre .0 .3) (copied .last .0) _ (copied .ensures) in
-    put-next (s .args .work .now) (s .args .at) (s .args .w) (s .pre .0 .2) (s .pre .0 .3) _ (made .last .0)
+    let e = take-copied (s .args .work .now) (s .args .at) (s .args .w) (s .pre .0 .3) (s .pre .0 .2) (copied .last .0) _ (copied .ensures) in
+    put-next (s .args .work .now) (s .args .at) (s .args .w) (s .pre .0 .3) (s .pre .0 .2) _ (made .last .0)
     (made .ensures ∙ ap (rowAbove (s .args .t)) e)
 
 pub raise-row-spec : {M : Type 1} → statement M
