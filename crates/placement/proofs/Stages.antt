@@ -20,7 +20,7 @@ use Rattle.layers.specs.declared.LayersRead.{LayersRead}
 use Rattle.layers.specs.declared.RowsAnswer.{RowsAnswer}
 use Rattle.layers.specs.declared.RowsAnswer.the-variants.{Good, Refused as RowsRefused}
 use Rattle.layers.proofs.Heads.{SizesFit, fit-le}
-use Rattle.layers.proofs.RowsChecked.{checkRows-accepted, taken-heads}
+use Rattle.layers.proofs.RowsChecked.{taken-of-checkRows, taken-heads}
 use Rattle.layers.proofs.Stages.{LayersTaken, layers-taken, layers-refused, rows-refused, rows-good, good-bounds, good-sizes, good-place}
 use Rattle.placement.specs.Figure.{figureOf}
 use Rattle.placement.specs.Placement.{Placement, placementLayerLimits, checkPlacement}
@@ -92,7 +92,7 @@ module _ (bytes : List ℕ) (h : Head) (at : ℕ) (read : LayersRead)
         -- the code's figure is that of the file's layers
         formula : figure ≡ figureOf (h .s) (h .k) (h .b) (headsOf (layers .0))
         formula =
-            let t = checkRows-accepted (h .n) (h .r) (taken .heads) bytes first (layers .1) in
+            let t = taken-of-checkRows (h .n) (h .r) (taken .heads) bytes first (layers .1) in
             computed ∙ rw (taken .arrays, taken-heads (h .n) (h .r) (taken .heads) bytes first t)
 
         pub figure-wrong : (h .figure ≡ figure → ⊥)
