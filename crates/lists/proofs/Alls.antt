@@ -9,6 +9,11 @@ use Rattle.lists.specs.Lists.{All, every}
 use Rattle.lists.proofs.Tests.{and-left, and-right, and-both}
 
 module _ {A : Type 0} where
+  -- what holds of everything
+  pub all-of : (P : A → Type 0) → ((a : A) → P a) → (l : List A) → All P l
+  all-of P h [] = tt
+  all-of P h (a ∷ l) = (h a, all-of P h l)
+
   pub all-append : (P : A → Type 0) (l m : List A) → All P l → All P m → All P (l ++ m)
   all-append P [] m h g = g
   all-append P (a ∷ l) m h g = (h .0, all-append P l m (h .1) g)

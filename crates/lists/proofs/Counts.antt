@@ -2,17 +2,21 @@
 use Prim.Native.Nat.{ℕ, zero, suc, _+_, _≤_, zero-le}
 use native.Mathlib.Omega.{arith}
 use native.Mathlib.Nat.{le-refl}
-use mathlib.Core.Path.{_≡_, refl, sym, _∙_, ap}
+use mathlib.Core.Path.{_≡_, refl, sym, _∙_, ap, ap₂}
 use mathlib.Core.Bool.{Bool, true, false, not}
 use mathlib.Core.List.{List, [], _∷_, _++_, map, flatten, append-assoc}
 use lib.ListN.{length}
 use lib.Dec.{T}
-use Rattle.lists.specs.Lists.{tally, count, total}
+use Rattle.lists.specs.Lists.{All, tally, count, total}
 
 -- a tally is at most one more
 pub tally-add : (b : Bool) (m n : ℕ) → tally b m + n ≡ tally b (m + n)
 tally-add true m n = omega arith
 tally-add false m n = refl
+
+pub add-tally : (b : Bool) (m n : ℕ) → m + tally b n ≡ tally b (m + n)
+add-tally true m n = omega arith
+add-tally false m n = refl
 
 pub tally-le-suc : (b : Bool) (n : ℕ) → tally b n ≤ suc n
 tally-le-suc true n = le-refl _
@@ -56,6 +60,12 @@ module _ {A : Type 0} where
   unfolding count
   count-congr f g h [] = refl
   count-congr f g h (a ∷ l) = rw (h a, count-congr f g h l)
+
+  -- `count-congr` where the tests agree only on the list's elements
+  pub count-congr-all : (f g : A → Bool) (l : List A) → All (λ a. f a ≡ g a) l → count f l ≡ count g l
+  unfolding count
+  count-congr-all f g [] h = refl
+  count-congr-all f g (a ∷ l) h = ap₂ tally (h .0) (count-congr-all f g l (h .1))
 
   -- those that pass and those that do not are all
   pub count-not : (f : A → Bool) (l : List A) → count f l + count (λ a. not (f a)) l ≡ length l

@@ -2,9 +2,9 @@
 use Prim.Native.Nat.{ℕ, zero, suc, _<_, suc-le-suc}
 use native.Mathlib.Nat.{not-suc-le-zero, le-of-suc-le-suc, zero-lt-suc}
 use native.Mathlib.Omega.{arith}
-use mathlib.Core.Path.{_≡_, refl, subst}
-use mathlib.Core.Bool.{Bool, true, false, cond}
-use mathlib.Core.List.{List, [], _∷_}
+use mathlib.Core.Path.{_≡_, refl, subst, ap, ap₂}
+use mathlib.Core.Bool.{Bool, true, false, cond, _||_}
+use mathlib.Core.List.{List, [], _∷_, map}
 use mathlib.Core.Option.{Option, none, some}
 use lib.ListN.{length, getD}
 use lib.Dec.{T}
@@ -68,3 +68,20 @@ module _ {A : Type 0} where
   any-getD f [] i d lt t = absurd (not-suc-le-zero lt)
   any-getD f (a ∷ l) zero d lt t = or-left (f a) (any f l) t
   any-getD f (a ∷ l) (suc i) d lt t = or-right (f a) (any f l) (any-getD f l i d (le-of-suc-le-suc lt) t)
+
+  -- where no element passes, `any` does not
+  pub any-none : (f : A → Bool) (l : List A) → All (λ a. f a ≡ false) l → any f l ≡ false
+  unfolding any
+  any-none f [] h = refl
+  any-none f (a ∷ l) h = rw (h .0) (any-none f l (h .1))
+
+  -- tests that agree on the list's elements
+  pub any-congr-all : (f g : A → Bool) (l : List A) → All (λ a. f a ≡ g a) l → any f l ≡ any g l
+  unfolding any
+  any-congr-all f g [] h = refl
+  any-congr-all f g (a ∷ l) h = ap₂ _||_ (h .0) (any-congr-all f g l (h .1))
+
+  pub any-map : {B : Type 0} (f : A → Bool) (g : B → A) (l : List B) → any f (map g l) ≡ any (λ b. f (g b)) l
+  unfolding any
+  any-map f g [] = refl
+  any-map f g (b ∷ l) = ap (λ t. f (g b) || t) (any-map f g l)

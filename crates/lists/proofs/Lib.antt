@@ -7,3 +7,5 @@ pub mod Listed
 pub mod CountUpTo
 pub mod DoubleCount
 pub mod Parts
+pub mod Writing
+pub mod Largest

@@ -1,14 +1,15 @@
 -- What is listed: elements that pass a test, and the first of them. Assumes nothing.
 use Prim.Native.Nat.{ℕ, zero, suc, _<_, suc-le-suc}
-use native.Mathlib.Nat.{not-suc-le-zero, le-of-suc-le-suc, zero-lt-suc}
+use native.Mathlib.Nat.{not-suc-le-zero, le-of-suc-le-suc, zero-lt-suc, le-trans}
 use mathlib.Core.Path.{_≡_, refl, sym, subst}
-use mathlib.Core.Bool.{Bool, true, false, _||_}
+use mathlib.Core.Bool.{Bool, true, false, _||_, true≢false}
 use mathlib.Core.List.{List, [], _∷_, List·Memᴰ, List·Memᴰ·head, List·Memᴰ·tail}
 use mathlib.Core.Option.{some}
 use lib.ListN.{length, getD}
 use lib.Dec.{T}
 use Rattle.lists.specs.Lists.{All, tally, count, any, firstWhere}
-use Rattle.lists.proofs.Tests.{or-left, or-right}
+use Rattle.lists.proofs.Tests.{true-T, or-left, or-right}
+use Rattle.lists.proofs.Counts.{le-tally}
 use Rattle.lists.proofs.Finds.{FoundAt}
 
 module _ {A : Type 0} where
@@ -22,6 +23,12 @@ module _ {A : Type 0} where
   unfolding any
   any-mem f (List·Memᴰ·head {x = b} {xs = l} e) t = or-left (f b) (any f l) (subst (λ c. T (f c)) e t)
   any-mem f (List·Memᴰ·tail {x = b} {xs = l} m) t = or-right (f b) (any f l) (any-mem f m t)
+
+  -- and is counted
+  pub count-mem : (f : A → Bool) {a : A} {l : List A} → List·Memᴰ a l → T (f a) → 0 < count f l
+  unfolding count
+  count-mem f (List·Memᴰ·head {x = b} {xs = l} e) t = rw (true-T (f b) (subst (λ c. T (f c)) e t)) (zero-lt-suc (count f l))
+  count-mem f (List·Memᴰ·tail {x = b} {xs = l} m) t = le-trans (count-mem f m t) (le-tally (f b) (count f l))
 
   -- an element that is listed and passes
   pub record Passing (f : A → Bool) (l : List A) : Type 0 where
@@ -53,6 +60,16 @@ module _ {A : Type 0} where
       go : (b : Bool) → f a ≡ b → 0 < tally b (count f l) → (0 < count f l → Passing f l) → Passing f (a ∷ l)
       go true p q ih = passing-here f a l (rw p tt)
       go false p q ih = passing-later f a l (ih q)
+
+  -- where `any` does not pass, no element is counted
+  pub count-of-any-false : (f : A → Bool) (l : List A) → any f l ≡ false → count f l ≡ 0
+  unfolding any count
+  count-of-any-false f [] e = refl
+  count-of-any-false f (a ∷ l) e = go (f a) e (count-of-any-false f l)
+    where
+      go : (b : Bool) → (b || any f l) ≡ false → (any f l ≡ false → count f l ≡ 0) → tally b (count f l) ≡ 0
+      go true q ih = absurd (true≢false q)
+      go false q ih = ih q
 
   -- the place of the first element that passes is what is found
   found-tail : (f : A → Bool) (a : A) (l : List A) (d : A) (i : ℕ) → FoundAt f (a ∷ l) d (suc i) → FoundAt f l d i

@@ -1,6 +1,7 @@
 -- Parts of lists: from a place on, and between two places. Assumes nothing.
-use Prim.Native.Nat.{ℕ, zero, suc, _-_, _<_, suc-le-suc}
+use Prim.Native.Nat.{ℕ, zero, suc, _+_, _-_, _<_, suc-le-suc}
 use native.Mathlib.Nat.{zero-lt-suc, sub-zero, zero-sub, suc-sub-suc}
+use native.Mathlib.Numerals.{add-one}
 use native.Mathlib.Omega.{arith}
 use mathlib.Core.Path.{_≡_, refl, sym, _∙_, ap}
 use mathlib.Core.List.{List, [], _∷_}
@@ -21,6 +22,10 @@ module _ {A : Type 0} where
 
   pub drop-suc-of-drop-cons : (l : List A) (i : ℕ) {a : A} {t : List A} → drop i l ≡ a ∷ t → drop (suc i) l ≡ t
   drop-suc-of-drop-cons l i {a = a} e = cc (drop-cons l i a (lt-of-drop-cons l i e))
+
+  -- `drop-cons` as code counts
+  pub drop-next : (l : List A) (i : ℕ) (d : A) → i < length l → drop i l ≡ getD l i d ∷ drop (i + 1) l
+  drop-next l i d h = rw add-one (drop-cons l i d h)
 
   pub slice-eq-take-drop : (f t : ℕ) (l : List A) → slice f t l ≡ take (t - f) (drop f l)
   slice-eq-take-drop zero t l = rw sub-zero

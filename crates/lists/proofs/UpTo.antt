@@ -5,8 +5,8 @@ use native.Mathlib.Nat.{not-suc-le-zero, le-of-suc-le-suc, eq-or-lt-of-le}
 use mathlib.Core.Path.{_≡_, refl, sym, _∙_, ap, subst}
 use mathlib.Core.Logic.{_⊎_, inl, inr, ⊎-elim}
 use mathlib.Core.List.{List, [], _∷_, _++_, map, map-append}
-use lib.ListN.{length, getD, length-append, length-map, List·getD-append}
-use lib.Seq.{getD-at}
+use lib.ListN.{length, getD, take, length-append, length-map, List·getD-append}
+use lib.Seq.{getD-at, take-suc}
 use Rattle.lists.specs.Lists.{All, upTo}
 use Rattle.lists.proofs.Alls.{all-append}
 
@@ -48,3 +48,16 @@ module _ {A : Type 0} where
   map-upTo-congr f g zero h = refl
   map-upTo-congr f g (suc n) h =
       rw (map-upTo-suc f n, map-upTo-suc g n, map-upTo-congr f g n (λ i lt. h i (omega arith)), h n (omega arith))
+
+  -- a list whose first n elements are f's values in order
+  pub take-map-upTo : (f : ℕ → A) (l : List A) (d : A) (n : ℕ) → n ≤ length l → ((i : ℕ) → i < n → getD l i d ≡ f i)
+      → take n l ≡ map f (upTo n)
+  unfolding upTo
+  take-map-upTo f l d zero h e = refl
+  take-map-upTo f l d (suc n) h e =
+      rw (
+        take-suc l n d h,
+        take-map-upTo f l d n (omega arith) (λ i lt. e i (omega arith)),
+        e n (omega arith),
+        map-upTo-suc f n,
+      )
