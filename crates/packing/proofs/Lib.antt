@@ -1,4 +1,5 @@
 pub mod Members
+pub mod RowsAt
 pub mod Sets
 pub mod Test
 pub mod Copies
