@@ -13,9 +13,9 @@ use borrow.Author.Tests.{eqb-true, eqb-false, ne-eqb}
 use Rattle.lists.specs.Lists.{All, tally, count, every, largest, upTo}
 use Rattle.lists.proofs.Tests.{and-left, and-right}
 use Rattle.lists.proofs.Counts.{tally-add, count-append, count-le-length}
+use Rattle.lists.proofs.UpTo.{take-map-upTo}
 use Rattle.packing.specs.Rows.{ascending, inOrder, rowsAt, member}
-use Rattle.rows.proofs.Lists.{take-map-upTo}
-use Rattle.rows.proofs.Blocks.{flatten-rowsAt}
+use Rattle.packing.proofs.RowsAt.{flatten-rowsAt}
 
 -- a node below all of an ascending row is not in it
 count-of-low : (v lo : ℕ) (row : List ℕ) → v < lo → T (ascending lo row) → count (λ w. eqb v w) row ≡ 0

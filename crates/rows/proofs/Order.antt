@@ -2,8 +2,8 @@
 -- Assumes nothing.
 use Prim.Native.Nat.{ℕ, suc, _+_, _≤_, _<_}
 use native.Mathlib.Numerals.{add-one}
-use mathlib.Core.Path.{_≡_, refl}
-use mathlib.Core.Bool.{Bool, true, false, _&&_}
+use mathlib.Core.Path.{_≡_}
+use mathlib.Core.Bool.{Bool, true, false, _&&_, and-false}
 use mathlib.Core.List.{List, _∷_}
 use lib.Dec.{ltb}
 use lib.ListN.{length, drop, getD, drop-of-length-le}
@@ -15,10 +15,6 @@ use Rattle.packing.specs.Rows.{ascending}
 -- the nodes are at least `least`, strictly ascending and below n
 abbrev pub orderFrom : (n least : ℕ) → List ℕ → Bool
 orderFrom n least row = ascending least row && every (λ v. ltb v n) row
-
-and-false : (b : Bool) → b && false ≡ false
-and-false true = refl
-and-false false = refl
 
 module _ (row : List ℕ) (n least i : ℕ) (h : i < length row) where
   pub order-of-low : getD row i 0 < least → orderFrom n least (drop i row) ≡ false

@@ -7,10 +7,11 @@ use mathlib.Core.List.{List, [], _++_, flatten}
 use lib.ListN.{length, getD, take, drop, length-append, length-drop}
 use lib.Seq.{length-take-le}
 use Rattle.lists.specs.Lists.{upTo}
+use Rattle.lists.proofs.Writing.{write-part}
 use Rattle.packing.specs.Rows.{rowsAt, repeated}
-use Rattle.rows.proofs.Lists.{write-part}
+use Rattle.packing.proofs.RowsAt.{length-rowsAt, getD-rowsAt}
 use Rattle.rows.proofs.Places.{row-end-le}
-use Rattle.rows.proofs.Blocks.{length-rowsAt, getD-rowsAt, flatten-repeated-next}
+use Rattle.rows.proofs.Blocks.{flatten-repeated-next}
 
 -- `written` of c rows are written. The next row is a copy of `block` and begins at byte `to`; from there on the bytes are as
 -- they were.

@@ -6,7 +6,7 @@ use mathlib.Core.Path.{_≡_, refl, ap, _∙_}
 use mathlib.Core.List.{_++_}
 use lib.ListN.{length, take, drop, set, getD, length-set}
 use borrow.Author.Needs.{needs}
-use Rattle.rows.proofs.Lists.{set-take-append-drop, take-append-drop-all}
+use Rattle.lists.proofs.Writing.{set-take-append-drop, take-append-drop-all}
 use Rattle.rows.proofs.copy_row.Statement.{statement}
 use Rattle.rows.proofs.copy_row.Tie as tie
 

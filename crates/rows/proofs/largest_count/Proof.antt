@@ -6,7 +6,7 @@ use mathlib.Core.Path.{_≡_, sym, ap, _∙_}
 use lib.ListN.{length, drop}
 use borrow.Author.Needs.{needs}
 use Rattle.lists.specs.Lists.{largest}
-use Rattle.rows.proofs.Lists.{largest-next, largest-end}
+use Rattle.lists.proofs.Largest.{largest-next, largest-end}
 use Rattle.rows.proofs.largest_count.Statement.{statement}
 use Rattle.rows.proofs.largest_count.Tie as tie
 

@@ -4,7 +4,7 @@ use Prim.Native.Nat.{_+_, _*_, _≤_, _<_, _-_}
 use native.Mathlib.Omega.{arith}
 use lib.ListN.{length, length-drop}
 use borrow.Author.Needs.{needs}
-use Rattle.rows.proofs.Lists.{take-drop-rest}
+use Rattle.lists.proofs.Writing.{take-drop-rest}
 use Rattle.rows.proofs.Written.{Written, block-lt, row-fits, block-fits, length-block, written-next, written-none, written-all}
 use Rattle.rows.proofs.write_rows.Statement.{statement}
 use Rattle.rows.proofs.write_rows.Tie as tie
