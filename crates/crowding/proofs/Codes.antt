@@ -1,7 +1,7 @@
 -- Codes to base 256: sets of as many nodes have one code only where they are the same. Assumes nothing.
 use Prim.Native.Nat.{ℕ, _+_, _*_, _/_, _%_, _<_}
-use mathlib.Core.Path.{_≡_, refl, ap, _∙_}
-use mathlib.Core.Bool.{Bool, true, false, _&&_}
+use mathlib.Core.Path.{_≡_, refl, sym, ap, _∙_}
+use mathlib.Core.Bool.{Bool, true, false, _&&_, and-true, and-assoc}
 use mathlib.Core.List.{List, [], _∷_}
 use native.Mathlib.Omega.{arith}
 use lib.ListN.{length}
@@ -23,18 +23,10 @@ eqb-digit a b v w hv hw = go (eqb a b) refl (eqb v w) refl
     go true e false f = ne-eqb (a * 256 + v) (b * 256 + w) (λ h. eqb-false v w f (omega (arith, eqb-true a b e)))
     go false e q f = ne-eqb (a * 256 + v) (b * 256 + w) (λ h. eqb-false a b e (omega arith))
 
-and-true-right : (b : Bool) → b ≡ (b && true)
-and-true-right true = refl
-and-true-right false = refl
-
-and-assoc : (a b c : Bool) → ((a && b) && c) ≡ (a && (b && c))
-and-assoc true b c = refl
-and-assoc false b c = refl
-
 pub eqb-codes : (a b : ℕ) (s t : List ℕ) → length s ≡ length t → Bytes s → Bytes t
     → eqb (codeFrom a s) (codeFrom b t) ≡ (eqb a b && sameNodes s t)
 unfolding codeFrom
-eqb-codes a b [] [] e p q = and-true-right (eqb a b)
+eqb-codes a b [] [] e p q = sym (and-true (eqb a b))
 eqb-codes a b [] (w ∷ t) e p q = absurd (omega arith)
 eqb-codes a b (v ∷ s) [] e p q = absurd (omega arith)
 eqb-codes a b (v ∷ s) (w ∷ t) e p q =

@@ -8,20 +8,25 @@ use native.Mathlib.Nat.{le-antisymm, sub-zero}
 use native.Mathlib.Omega.{arith}
 use lib.ListN.{length, take, drop, getD, length-take, length-append}
 use lib.Seq.{take-at}
-use lib.Dec.{T, leb, ltb, eqb}
-use borrow.Author.Tests.{le-ltb, ltb-true, ltb-false, eq-eqb}
+use lib.Dec.{T, leb, ltb, eqb, ltb→lt, eqb-refl}
+use borrow.Author.Tests.{le-ltb, ltb-true, ltb-false}
 use Rattle.lists.specs.Lists.{All, firstWhere}
+use Rattle.lists.proofs.Tests.{and-left, and-right, and-both}
+use Rattle.lists.proofs.Alls.{all-of, all-imp, all-both, getD-all}
+use Rattle.lists.proofs.Counts.{count-le-length}
+use Rattle.lists.proofs.Finds.{firstWhere-none, any-none}
+use Rattle.lists.proofs.Listed.{count-mem, Passing, passing-count}
 use Rattle.packing.specs.Rows.{ascending, rowsAt, together, holds, subsets, crowded, firstCrowded}
 use Rattle.packing.specs.Answers.{rowFound}
 use Rattle.packing.specs.declared.RowFound.the-variants.{At, Nothing}
+use Rattle.packing.proofs.RowsAt.{all-rowsAt}
 use Rattle.sort.specs.Sorted.{Sorted, Rearranged}
 use Rattle.crowding.specs.Keys.{rowsKeys}
 use Rattle.crowding.specs.Shared.{leastShared, rowNumber}
-use Rattle.crowding.proofs.Lists.{all-mono, all-of, and-true, pick, any-congr, any-none, count-le-length}
 use Rattle.crowding.proofs.Codes.{Bytes}
 use Rattle.crowding.proofs.Keys.{Good, run, crowded-keys}
-use Rattle.crowding.proofs.First.{placeFrom, Below, first-below, first-none, place-le, upToRow, ByKeys, count-of-first, first-le}
-use Rattle.crowding.proofs.Runs.{least-shared-le, least-shared-le-row, least-shared-hot, sorted-all}
+use Rattle.crowding.proofs.First.{placeFrom, Below, first-below, place-le, upToRow, ByKeys, count-of-first, first-le}
+use Rattle.crowding.proofs.Runs.{least-shared-le, least-shared-le-row, least-shared-hot}
 
 module _ (x bound : ℕ) (rows : List (List ℕ)) (good : All Good rows) (few : length rows ≤ 65536) where
   -- a key's set has more keys than `bound`
@@ -29,7 +34,8 @@ module _ (x bound : ℕ) (rows : List (List ℕ)) (good : All Good rows) (few : 
   hot k = ltb bound (run (k / 65536) (rowsKeys x 0 rows))
 
   by-keys : All (ByKeys x hot (crowded x bound rows)) rows
-  by-keys = all-mono (λ row g i hi. crowded-keys x bound i rows row hi few good g) rows good
+  by-keys =
+      all-imp Good (ByKeys x hot (crowded x bound rows)) (λ row g i hi. crowded-keys x bound i rows row hi few good g) rows good
 
   -- the scan of the sorted keys finds the first crowded row
   module _ (keys : List ℕ) (sorted : Sorted keys) (same : Rearranged keys (rowsKeys x 0 rows)) where
@@ -43,12 +49,14 @@ module _ (x bound : ℕ) (rows : List (List ℕ)) (good : All Good rows) (few : 
         go : (b : Bool) → ltb first 65536 ≡ b → leastShared bound 65536 keys ≤ first
         go true e =
             let pos = count-of-first x hot (crowded x bound rows) 0 rows (omega arith) by-keys (ltb-true first 65536 e) in
-            let z = pick (λ k. 0 ≤ k) (upToRow hot first) keys (sorted-all 0 keys sorted) (rw (same (upToRow hot first)) pos) in
-            let both = and-true (hot (z .0)) (leb (z .0 % 65536) first) (z .1) in
-            least-shared-le-row bound first (z .0 / 65536) 65536 0 keys sorted
-            (rw (same (λ k. eqb (k / 65536) (z .0 / 65536))) (ltb-true bound _ (both .0)))
-            (z .3 (λ k. eqb (k / 65536) (z .0 / 65536) && leb (k % 65536) first)
-            (rw (eq-eqb (z .0 / 65536) (z .0 / 65536) refl) (both .1)))
+            let z = passing-count (upToRow hot first) keys (rw (same (upToRow hot first)) pos) in
+            let k = z .element in
+            least-shared-le-row bound first (k / 65536) 65536 0 keys sorted
+            (rw (same (λ m. eqb (m / 65536) (k / 65536)))
+            (ltb→lt bound _ (and-left (hot k) (leb (k % 65536) first) (z .passes))))
+            (count-mem (λ m. eqb (m / 65536) (k / 65536) && leb (m % 65536) first) (z .listed)
+            (and-both (eqb (k / 65536) (k / 65536)) (leb (k % 65536) first) (eqb-refl (k / 65536))
+            (and-right (hot k) (leb (k % 65536) first) (z .passes))))
         go false e = omega (arith, least-shared-le bound 65536 keys, ltb-false first 65536 e)
 
     first-le-scan : placeFrom 0 (firstCrowded x bound rows) ≤ leastShared bound 65536 keys
@@ -78,11 +86,12 @@ module _ (x bound : ℕ) (rows : List (List ℕ)) (good : All Good rows) (few : 
 pub first-none-of-few : (x bound : ℕ) (rows : List (List ℕ)) → length rows ≤ bound → firstCrowded x bound rows ≡ none
 unfolding firstCrowded crowded together
 first-none-of-few x bound rows h =
-    first-none (crowded x bound rows) rows
-    (λ row. any-congr (λ s. ltb bound (together rows s)) (λ s. false) (subsets (suc x) row)
+    firstWhere-none (crowded x bound rows) rows
+    (all-of (λ row. crowded x bound rows row ≡ false)
+    (λ row. any-none (λ s. ltb bound (together rows s)) (subsets (suc x) row)
     (all-of (λ s. ltb bound (together rows s) ≡ false)
-    (λ s. le-ltb bound (together rows s) (omega (arith, count-le-length (λ r. holds r s) rows))) (subsets (suc x) row))
-    ∙ any-none (subsets (suc x) row))
+    (λ s. le-ltb bound (together rows s) (omega (arith, count-le-length (λ r. holds r s) rows))) (subsets (suc x) row)))
+    rows)
 
 -- a row's number as the answer
 pub found-row : (n : ℕ) (o : Option ℕ) → n ≡ rowNumber o → n < 65536 → At (record { 0 = n }) ≡ rowFound o
@@ -102,34 +111,11 @@ place-number none = refl
 place-number (some j) = omega arith
 
 -- the rows of bytes that are ascending are good
-bytes-take : (n : ℕ) (l : List ℕ) → Bytes l → Bytes (take n l)
-bytes-take zero l b = tt
-bytes-take (suc n) [] b = tt
-bytes-take (suc n) (v ∷ l) b = (b .0, bytes-take n l (b .1))
-
-bytes-drop : (n : ℕ) (l : List ℕ) → Bytes l → Bytes (drop n l)
-bytes-drop zero l b = b
-bytes-drop (suc n) [] b = tt
-bytes-drop (suc n) (v ∷ l) b = bytes-drop n l (b .1)
-
-bytes-of : (l : List ℕ) → ((i : ℕ) → getD l i 0 < 256) → Bytes l
-bytes-of [] h = tt
-bytes-of (v ∷ l) h = (h 0, bytes-of l (λ i. h (suc i)))
-
-good-rows-from : (r c : ℕ) (l : List ℕ) → Bytes l → All (λ row. T (ascending 0 row)) (rowsAt r c l) → All Good (rowsAt r c l)
-unfolding rowsAt
-good-rows-from r zero l b a = tt
-good-rows-from r (suc c) l b a =
-    ((a .0, bytes-take r l b), good-rows-from r c (drop r l) (bytes-drop r l b) (a .1))
-
 pub good-rows : (r c : ℕ) (l : List ℕ) → ((i : ℕ) → getD l i 0 < 256) → All (λ row. T (ascending 0 row)) (rowsAt r c l)
     → All Good (rowsAt r c l)
-good-rows r c l h a = good-rows-from r c l (bytes-of l h) a
-
-pub length-rows : (r c : ℕ) (l : List ℕ) → length (rowsAt r c l) ≡ c
-unfolding rowsAt
-length-rows r zero l = refl
-length-rows r (suc c) l = ap suc (length-rows r c (drop r l))
+good-rows r c l h a =
+    all-both (λ row. T (ascending 0 row)) Bytes (rowsAt r c l) a
+    (all-rowsAt (λ v. v < 256) r c l (getD-all (λ v. v < 256) 0 l (λ i lt. h i)))
 
 -- the working slice: the keys are its first n, sorted as `ordered`, and the rest stays
 module _ (keys filled : List ℕ) (n : ℕ) (counted : n ≡ length keys) (written : take n filled ≡ keys) where

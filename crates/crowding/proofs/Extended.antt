@@ -1,16 +1,15 @@
 -- The keys of a row, one node after the other: with the next node, and without it. Assumes nothing.
 use Prim.Native.Nat.{ℕ, zero, suc, _+_, _*_, _-_, _^_, _≤_, _<_}
 use mathlib.Core.Path.{_≡_, refl, sym, ap, _∙_}
-use mathlib.Core.List.{List, [], _∷_, _++_, map, map-map, append-nil, append-assoc}
+use mathlib.Core.List.{List, [], _∷_, _++_, map, map-map, map-append, append-nil, append-assoc}
 use native.Mathlib.Nat.{pow-suc, one-le-pow, mul-le-mul-right, mul-le-mul-left}
 use native.Mathlib.Numerals.{add-one}
 use native.Mathlib.Omega.{arith}
 use lib.ListN.{length, take, drop, getD, set, length-drop, length-append}
 use lib.Seq.{take-suc-set}
+use Rattle.lists.proofs.Parts.{drop-next}
 use Rattle.packing.specs.Rows.{subsets}
-use Rattle.sort.proofs.Lists.{drop-next}
 use Rattle.crowding.specs.Keys.{codeFrom, keysFrom}
-use Rattle.crowding.proofs.Lists.{map-append}
 use Rattle.crowding.proofs.Sets.{subsets-short}
 
 pub keys-zero : (code number : ℕ) (l : List ℕ) → keysFrom 0 code number l ≡ (code * 65536 + number) ∷ []

@@ -7,12 +7,12 @@ use mathlib.Core.List.{List, [], _∷_, _++_}
 use mathlib.Core.Option.{Option, none, some}
 use native.Mathlib.Omega.{arith}
 use lib.ListN.{length}
-use lib.Dec.{leb}
-use borrow.Author.Tests.{le-leb, leb-true}
+use lib.Dec.{leb, leb→le, le→leb}
 use Rattle.lists.specs.Lists.{All, count, any, firstWhere, later}
-use Rattle.sort.proofs.Lists.{count-append}
+use Rattle.lists.proofs.Tests.{T-true, and-left, and-right, and-both}
+use Rattle.lists.proofs.Counts.{count-append, count-mono}
+use Rattle.lists.proofs.Listed.{all-mem, count-mem, Passing, passing-any, passing-count, count-of-any-false}
 use Rattle.crowding.specs.Keys.{keysFrom, rowsKeys}
-use Rattle.crowding.proofs.Lists.{all-mono, and-true, pick, count-of-any-true, count-of-any-false}
 use Rattle.crowding.proofs.Keys.{keys-row, rows-keys-from}
 
 -- the place, counted from i, and 65,536 where there is none
@@ -43,11 +43,6 @@ first-below f (a ∷ l) = go (f a) (later-below (length l) (firstWhere f l) (fir
     go true h = omega arith
     go false h = h
 
-pub first-none : {A : Type 0} (f : A → Bool) (l : List A) → ((a : A) → f a ≡ false) → firstWhere f l ≡ none
-unfolding firstWhere
-first-none f [] h = refl
-first-none f (a ∷ l) h = rw (h a, first-none f l h)
-
 pub place-le : (n : ℕ) (o : Option ℕ) → Below n o → n ≤ 65536 → placeFrom 0 o ≤ 65536
 place-le n none b h = omega arith
 place-le n (some j) b h = omega arith
@@ -69,6 +64,14 @@ module _ (x : ℕ) (hot : ℕ → Bool) (test : List ℕ → Bool) where
   count-of-first i [] h by lt = absurd (omega arith)
   count-of-first i (row ∷ rows) h by lt = go (test row) refl lt (count-of-first (suc i) rows (omega arith) (by .1))
     where
+      of-row : any hot (keysFrom (suc x) 0 i row) ≡ true → 0 < count (upToRow hot (i + 0)) (keysFrom (suc x) 0 i row)
+      of-row e =
+          let z = passing-any hot (keysFrom (suc x) 0 i row) (T-true e) in
+          let number = all-mem (λ k. k % 65536 ≡ i) (keys-row (suc x) 0 i row (omega arith)) (z .listed) in
+          count-mem (upToRow hot (i + 0)) (z .listed)
+          (and-both (hot (z .element)) (leb (z .element % 65536) (i + 0)) (z .passes)
+          (le→leb (z .element % 65536) (i + 0) (omega arith)))
+
       go : (b : Bool) → test row ≡ b → placeFrom i (cond b (some 0) (later (firstWhere test rows))) < 65536
           → (placeFrom (suc i) (firstWhere test rows) < 65536
           → 0 < count (upToRow hot (placeFrom (suc i) (firstWhere test rows))) (rowsKeys x (suc i) rows))
@@ -76,13 +79,7 @@ module _ (x : ℕ) (hot : ℕ → Bool) (test : List ℕ → Bool) where
           (keysFrom (suc x) 0 i row ++ rowsKeys x (suc i) rows)
       go true e lt ih =
           rw (count-append (upToRow hot (i + 0)) (keysFrom (suc x) 0 i row) (rowsKeys x (suc i) rows))
-          (omega (
-            arith,
-            count-of-any-true hot (λ k. leb (k % 65536) (i + 0)) (keysFrom (suc x) 0 i row)
-                (sym (by .0 i (omega arith)) ∙ e)
-                (all-mono (λ k q. le-leb (k % 65536) (i + 0) (omega arith)) (keysFrom (suc x) 0 i row)
-                (keys-row (suc x) 0 i row (omega arith))),
-          ))
+          (omega (arith, of-row (sym (by .0 i (omega arith)) ∙ e)))
       go false e lt ih =
           rw (
             place-later i (firstWhere test rows),
@@ -101,12 +98,17 @@ module _ (x : ℕ) (hot : ℕ → Bool) (test : List ℕ → Bool) where
           → (0 < count (upToRow hot v) (rowsKeys x (suc i) rows) → placeFrom (suc i) (firstWhere test rows) ≤ v)
           → placeFrom i (cond b (some 0) (later (firstWhere test rows))) ≤ v
       go true e pos ih =
-          let r = pick (λ k. i ≤ k % 65536) (upToRow hot v) (rowsKeys x i (row ∷ rows)) (rows-keys-from x i (row ∷ rows) h) pos in
-          omega (arith, r .2, leb-true (r .0 % 65536) v (and-true (hot (r .0)) (leb (r .0 % 65536) v) (r .1) .1))
+          let z = passing-count (upToRow hot v) (rowsKeys x i (row ∷ rows)) pos in
+          omega (
+            arith,
+            all-mem (λ k. i ≤ k % 65536) (rows-keys-from x i (row ∷ rows) h) (z .listed),
+            leb→le (z .element % 65536) v (and-right (hot (z .element)) (leb (z .element % 65536) v) (z .passes)),
+          )
       go false e pos ih =
           rw (place-later i (firstWhere test rows))
           (ih (omega (
             arith,
             rw (count-append (upToRow hot v) (keysFrom (suc x) 0 i row) (rowsKeys x (suc i) rows)) at pos,
-            count-of-any-false hot (λ k. leb (k % 65536) v) (keysFrom (suc x) 0 i row) (sym (by .0 i (omega arith)) ∙ e),
+            count-mono (upToRow hot v) hot (λ k t. and-left (hot k) (leb (k % 65536) v) t) (keysFrom (suc x) 0 i row),
+            count-of-any-false hot (keysFrom (suc x) 0 i row) (sym (by .0 i (omega arith)) ∙ e),
           )))

@@ -6,10 +6,11 @@ use native.Mathlib.Omega.{arith}
 use lib.ListN.{length}
 use lib.Dec.{T, eqb, ltb}
 use Rattle.lists.specs.Lists.{All, count, any, tally}
+use Rattle.lists.proofs.Alls.{all-of, all-imp, all-both, all-append, all-map}
+use Rattle.lists.proofs.Counts.{tally-add, count-append, count-congr-all, count-map}
+use Rattle.lists.proofs.Finds.{any-congr-all, any-map}
 use Rattle.packing.specs.Rows.{ascending, holds, together, subsets, crowded}
-use Rattle.sort.proofs.Lists.{count-append, tally-add-left}
 use Rattle.crowding.specs.Keys.{codeFrom, keysFrom, rowsKeys}
-use Rattle.crowding.proofs.Lists.{all-of, all-mono, all-both, all-append, all-map, count-congr, any-congr, count-map, any-map}
 use Rattle.crowding.proofs.Sets.{all-subsets, subsets-ascending, sameNodes, count-subsets}
 use Rattle.crowding.proofs.Codes.{Bytes, eqb-codes, key-set, key-row}
 
@@ -33,8 +34,9 @@ module _ (x : ℕ) (nodes : List ℕ) (an : T (ascending 0 nodes)) (en : length 
   unfolding keysFrom
   run-row i row hi g =
       count-map (λ k. eqb (k / 65536) (codeFrom 0 nodes)) (λ s. codeFrom 0 s * 65536 + i) (subsets (suc x) row)
-      ∙ count-congr (λ s. eqb ((codeFrom 0 s * 65536 + i) / 65536) (codeFrom 0 nodes)) (λ s. sameNodes s nodes) (subsets (suc x) row)
-      (all-mono
+      ∙ count-congr-all (λ s. eqb ((codeFrom 0 s * 65536 + i) / 65536) (codeFrom 0 nodes)) (λ s. sameNodes s nodes) (subsets (suc x) row)
+      (all-imp (λ s. (length s ≡ suc x) × Bytes s)
+      (λ s. eqb ((codeFrom 0 s * 65536 + i) / 65536) (codeFrom 0 nodes) ≡ sameNodes s nodes)
       (λ s q. ap (λ (n : ℕ). eqb n (codeFrom 0 nodes)) (key-set (codeFrom 0 s) i hi)
       ∙ eqb-codes 0 0 s nodes (q .0 ∙ sym en) (q .1) bn)
       (subsets (suc x) row) (all-subsets (λ v. v < 256) (suc x) row (g .1)))
@@ -49,7 +51,7 @@ module _ (x : ℕ) (nodes : List ℕ) (an : T (ascending 0 nodes)) (en : length 
   run-rows i (row ∷ rows) h g =
       count-append (λ k. eqb (k / 65536) (codeFrom 0 nodes)) (keysFrom (suc x) 0 i row) (rowsKeys x (suc i) rows)
       ∙ ap₂ _+_ (run-row i row (omega arith) (g .0)) (run-rows (suc i) rows (omega arith) (g .1))
-      ∙ sym (tally-add-left (holds row nodes) 0 (together rows nodes))
+      ∙ tally-add (holds row nodes) 0 (together rows nodes)
       ∙ ap (tally (holds row nodes)) (omega arith)
 
 -- a row is crowded where one of its keys has a set that more than `bound` keys have
@@ -58,9 +60,10 @@ pub crowded-keys : (x bound i : ℕ) (rows : List (List ℕ)) (row : List ℕ) �
     → crowded x bound rows row ≡ any (λ k. ltb bound (run (k / 65536) (rowsKeys x 0 rows))) (keysFrom (suc x) 0 i row)
 unfolding crowded keysFrom
 crowded-keys x bound i rows row hi hl gs g =
-    any-congr (λ s. ltb bound (together rows s)) (λ s. ltb bound (run ((codeFrom 0 s * 65536 + i) / 65536) (rowsKeys x 0 rows)))
+    any-congr-all (λ s. ltb bound (together rows s)) (λ s. ltb bound (run ((codeFrom 0 s * 65536 + i) / 65536) (rowsKeys x 0 rows)))
     (subsets (suc x) row)
-    (all-mono
+    (all-imp (λ s. T (ascending 0 s) × ((length s ≡ suc x) × Bytes s))
+    (λ s. ltb bound (together rows s) ≡ ltb bound (run ((codeFrom 0 s * 65536 + i) / 65536) (rowsKeys x 0 rows)))
     (λ s q. ap (ltb bound)
     (sym (ap (λ (n : ℕ). run n (rowsKeys x 0 rows)) (key-set (codeFrom 0 s) i hi)
     ∙ run-rows x s (q .0) (q .1 .0) (q .1 .1) 0 rows (omega arith) gs)))
@@ -79,5 +82,7 @@ unfolding rowsKeys
 rows-keys-from x i [] h = tt
 rows-keys-from x i (row ∷ rows) h =
     all-append (λ k. i ≤ k % 65536) (keysFrom (suc x) 0 i row) (rowsKeys x (suc i) rows)
-    (all-mono (λ k e. omega arith) (keysFrom (suc x) 0 i row) (keys-row (suc x) 0 i row (omega arith)))
-    (all-mono (λ k e. omega arith) (rowsKeys x (suc i) rows) (rows-keys-from x (suc i) rows (omega arith)))
+    (all-imp (λ k. k % 65536 ≡ i) (λ k. i ≤ k % 65536) (λ k e. omega arith) (keysFrom (suc x) 0 i row)
+    (keys-row (suc x) 0 i row (omega arith)))
+    (all-imp (λ k. suc i ≤ k % 65536) (λ k. i ≤ k % 65536) (λ k e. omega arith) (rowsKeys x (suc i) rows)
+    (rows-keys-from x (suc i) rows (omega arith)))

@@ -7,19 +7,22 @@ use mathlib.Core.List.{List, [], _∷_}
 use native.Mathlib.Omega.{arith}
 use lib.ListN.{length, getD, drop, length-drop}
 use lib.Seq.{getD-drop}
-use lib.Dec.{leb, ltb, eqb, leb·suc-suc}
-use borrow.Author.Tests.{lt-ltb, le-ltb, ltb-true, ltb-false, le-leb, leb-true, eq-eqb, ne-eqb, eqb-true, eqb-false}
+use lib.Dec.{leb, ltb, eqb, leb→le, eqb→eq, leb·suc-suc}
+use borrow.Author.Tests.{lt-ltb, le-ltb, ltb-true, ltb-false, le-leb, eq-eqb, ne-eqb, eqb-true, eqb-false}
 use Rattle.lists.specs.Lists.{All, count, tally}
+use Rattle.lists.proofs.Tests.{and-left, and-right}
+use Rattle.lists.proofs.Alls.{all-imp}
+use Rattle.lists.proofs.Counts.{le-tally}
+use Rattle.lists.proofs.Parts.{drop-next}
+use Rattle.lists.proofs.Listed.{all-mem, Passing, passing-count}
 use Rattle.sort.specs.Sorted.{SortedFrom}
-use Rattle.sort.proofs.Lists.{drop-next}
 use Rattle.crowding.specs.Shared.{sameSet, lowered, sharedOn, leastShared}
-use Rattle.crowding.proofs.Lists.{all-mono, and-true, pick, le-tally}
 use Rattle.crowding.proofs.Keys.{run}
 use Rattle.crowding.proofs.First.{upToRow}
 
 pub sorted-all : (lo : ℕ) (l : List ℕ) → SortedFrom lo l → All (λ k. lo ≤ k) l
 sorted-all lo [] s = tt
-sorted-all lo (a ∷ l) s = (s .0, all-mono (λ k h. omega (arith, s .0)) l (sorted-all a l (s .1)))
+sorted-all lo (a ∷ l) s = (s .0, all-imp (λ k. a ≤ k) (λ k. lo ≤ k) (λ k h. omega (arith, s .0)) l (sorted-all a l (s .1)))
 
 run-above : (code lo : ℕ) (l : List ℕ) → SortedFrom lo l → code < lo / 65536 → run code l ≡ 0
 unfolding count
@@ -92,10 +95,14 @@ least-shared-le-row bound v code least lo (k ∷ l) s r p =
   where
     row-le : k / 65536 ≡ code → k % 65536 ≤ v
     row-le c =
-        let z = pick (λ z. k ≤ z) (λ z. eqb (z / 65536) code && leb (z % 65536) v) (k ∷ l)
-        (omega arith, sorted-all k l (s .1)) p in
-        let both = and-true (eqb (z .0 / 65536) code) (leb (z .0 % 65536) v) (z .1) in
-        omega (arith, z .2, eqb-true (z .0 / 65536) code (both .0), leb-true (z .0 % 65536) v (both .1))
+        let z = passing-count (λ z. eqb (z / 65536) code && leb (z % 65536) v) (k ∷ l) p in
+        let low : k ≤ z .element = all-mem (λ z. k ≤ z) {l = k ∷ l} (omega arith, sorted-all k l (s .1)) (z .listed) in
+        omega (
+          arith,
+          low,
+          eqb→eq (z .element / 65536) code (and-left (eqb (z .element / 65536) code) (leb (z .element % 65536) v) (z .passes)),
+          leb→le (z .element % 65536) v (and-right (eqb (z .element / 65536) code) (leb (z .element % 65536) v) (z .passes)),
+        )
 
     go : (b : Bool) → eqb (k / 65536) code ≡ b → bound < tally b (run code l)
         → 0 < tally (b && leb (k % 65536) v) (count (λ k. eqb (k / 65536) code && leb (k % 65536) v) l)

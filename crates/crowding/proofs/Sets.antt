@@ -10,9 +10,11 @@ use lib.ListN.{length}
 use lib.Dec.{T, leb, eqb, leb→le, le→leb}
 use borrow.Author.Tests.{eq-eqb, ne-eqb, eqb-true, eqb-false, leb-true, leb-false}
 use Rattle.lists.specs.Lists.{All, count, every, tally}
+use Rattle.lists.proofs.Tests.{and-left, and-right, and-both}
+use Rattle.lists.proofs.Alls.{all-append, all-imp, all-map}
+use Rattle.lists.proofs.Counts.{count-append, count-map}
+use Rattle.lists.proofs.DoubleCount.{count-none}
 use Rattle.packing.specs.Rows.{ascending, member, holds, subsets}
-use Rattle.sort.proofs.Lists.{count-append}
-use Rattle.crowding.proofs.Lists.{T-and, and-T, all-mono, all-append, all-map, count-map, count-none}
 
 -- each set has j nodes, and of its nodes holds what holds of the row's
 pub all-subsets : (P : ℕ → Type 0) (j : ℕ) (l : List ℕ) → All P l → All (λ s. (length s ≡ j) × All P s) (subsets j l)
@@ -22,27 +24,32 @@ all-subsets P (suc j) [] p = tt
 all-subsets P (suc j) (v ∷ l) p =
     all-append (λ s. (length s ≡ suc j) × All P s) (map (λ s. v ∷ s) (subsets j l)) (subsets (suc j) l)
     (all-map (λ s. (length s ≡ suc j) × All P s) (λ s. v ∷ s) (subsets j l)
-    (all-mono (λ s q. (ap suc (q .0), (p .0, q .1))) (subsets j l) (all-subsets P j l (p .1))))
+    (all-imp (λ s. (length s ≡ j) × All P s) (λ s. (length (v ∷ s) ≡ suc j) × All P (v ∷ s))
+    (λ s q. (ap suc (q .0), (p .0, q .1))) (subsets j l) (all-subsets P j l (p .1))))
     (all-subsets P (suc j) l (p .1))
 
 pub ascending-mono : (lo hi : ℕ) (l : List ℕ) → lo ≤ hi → T (ascending hi l) → T (ascending lo l)
 unfolding ascending
 ascending-mono lo hi [] h a = tt
 ascending-mono lo hi (v ∷ l) h a =
-    let p = T-and (leb hi v) (ascending (suc v) l) a in
-    and-T (leb lo v) (ascending (suc v) l) (le→leb lo v (omega (arith, leb→le hi v (p .0)))) (p .1)
+    and-both (leb lo v) (ascending (suc v) l)
+    (le→leb lo v (omega (arith, leb→le hi v (and-left (leb hi v) (ascending (suc v) l) a))))
+    (and-right (leb hi v) (ascending (suc v) l) a)
 
 pub subsets-ascending : (lo j : ℕ) (l : List ℕ) → T (ascending lo l) → All (λ s. T (ascending lo s)) (subsets j l)
 unfolding subsets ascending
 subsets-ascending lo zero l a = (tt, tt)
 subsets-ascending lo (suc j) [] a = tt
 subsets-ascending lo (suc j) (v ∷ l) a =
-    let p = T-and (leb lo v) (ascending (suc v) l) a in
+    let low = and-left (leb lo v) (ascending (suc v) l) a in
+    let rest = and-right (leb lo v) (ascending (suc v) l) a in
     all-append (λ s. T (ascending lo s)) (map (λ s. v ∷ s) (subsets j l)) (subsets (suc j) l)
     (all-map (λ s. T (ascending lo s)) (λ s. v ∷ s) (subsets j l)
-    (all-mono (λ s q. and-T (leb lo v) (ascending (suc v) s) (p .0) q) (subsets j l) (subsets-ascending (suc v) j l (p .1))))
-    (all-mono (λ s q. ascending-mono lo (suc v) s (omega (arith, leb→le lo v (p .0))) q) (subsets (suc j) l)
-    (subsets-ascending (suc v) (suc j) l (p .1)))
+    (all-imp (λ s. T (ascending (suc v) s)) (λ s. T (ascending lo (v ∷ s)))
+    (λ s q. and-both (leb lo v) (ascending (suc v) s) low q) (subsets j l) (subsets-ascending (suc v) j l rest)))
+    (all-imp (λ s. T (ascending (suc v) s)) (λ s. T (ascending lo s))
+    (λ s q. ascending-mono lo (suc v) s (omega (arith, leb→le lo v low)) q) (subsets (suc j) l)
+    (subsets-ascending (suc v) (suc j) l rest))
 
 -- a row of fewer nodes has no set of j
 pub subsets-short : (j : ℕ) (l : List ℕ) → length l < j → subsets j l ≡ []
@@ -62,18 +69,18 @@ member-below : (t v : ℕ) (row : List ℕ) → t ≤ v → T (ascending (suc v)
 unfolding member ascending
 member-below t v [] h a = refl
 member-below t v (w ∷ row) h a =
-    let p = T-and (leb (suc v) w) (ascending (suc w) row) a in
-    let lt = leb→le (suc v) w (p .0) in
-    ap₂ _||_ (ne-eqb t w (λ e. omega arith)) (member-below t w row (omega arith) (p .1))
+    let lt = leb→le (suc v) w (and-left (leb (suc v) w) (ascending (suc w) row) a) in
+    ap₂ _||_ (ne-eqb t w (λ e. omega arith))
+    (member-below t w row (omega arith) (and-right (leb (suc v) w) (ascending (suc w) row) a))
 
 holds-cons : (v : ℕ) (row nodes : List ℕ) → T (ascending (suc v) nodes) → holds (v ∷ row) nodes ≡ holds row nodes
 unfolding holds every member ascending
 holds-cons v row [] a = refl
 holds-cons v row (w ∷ nodes) a =
-    let p = T-and (leb (suc v) w) (ascending (suc w) nodes) a in
-    let lt = leb→le (suc v) w (p .0) in
+    let lt = leb→le (suc v) w (and-left (leb (suc v) w) (ascending (suc w) nodes) a) in
+    let rest = and-right (leb (suc v) w) (ascending (suc w) nodes) a in
     ap₂ _&&_ (ap (λ (b : Bool). b || member w row) (ne-eqb w v (λ e. omega arith)))
-    (holds-cons v row nodes (ascending-mono (suc v) (suc w) nodes (omega arith) (p .1)))
+    (holds-cons v row nodes (ascending-mono (suc v) (suc w) nodes (omega arith) rest))
 
 holds-below : (t v : ℕ) (row nodes : List ℕ) → t ≤ v → T (ascending (suc v) row) → holds row (t ∷ nodes) ≡ false
 unfolding holds every
@@ -94,7 +101,7 @@ module _ (t v : ℕ) (row nodes : List ℕ) (ar : T (ascending (suc v) row)) (an
       go : (b : Bool) → leb (suc v) t ≡ b → holds (v ∷ row) (t ∷ nodes) ≡ holds row (t ∷ nodes)
       go true e =
           holds-cons v row (t ∷ nodes)
-          (and-T (leb (suc v) t) (ascending (suc t) nodes) (le→leb (suc v) t (leb-true (suc v) t e)) an)
+          (and-both (leb (suc v) t) (ascending (suc t) nodes) (le→leb (suc v) t (leb-true (suc v) t e)) an)
       go false e = rw (ne-eqb t v ne, member-below t v row (omega (arith, leb-false (suc v) t e)) ar)
 
 -- an ascending row has each set of its nodes once
@@ -110,10 +117,10 @@ count-subsets lo mo (v ∷ row) (t ∷ nodes) ar an =
     ∙ go (eqb v t) refl (count-subsets (suc v) (suc t) row nodes ar′ an′) (count-subsets (suc v) mo row (t ∷ nodes) ar′ an)
   where
     ar′ : T (ascending (suc v) row)
-    ar′ = T-and (leb lo v) (ascending (suc v) row) ar .1
+    ar′ = and-right (leb lo v) (ascending (suc v) row) ar
 
     an′ : T (ascending (suc t) nodes)
-    an′ = T-and (leb mo t) (ascending (suc t) nodes) an .1
+    an′ = and-right (leb mo t) (ascending (suc t) nodes) an
 
     go : (b : Bool) → eqb v t ≡ b
         → count (λ s. sameNodes s nodes) (subsets (length nodes) row) ≡ tally (holds row nodes) 0
@@ -127,6 +134,6 @@ count-subsets lo mo (v ∷ row) (t ∷ nodes) ar an =
         ∙ add-zero _
         ∙ ap (λ (b : Bool). tally b 0) (sym (holds-head t v row nodes ar′ an′ (sym same)))
     go false e here there =
-        ap₂ _+_ (count-none (subsets (length nodes) row)) there
+        ap₂ _+_ (count-none (λ s. false) (subsets (length nodes) row) (λ s t. t)) there
         ∙ zero-add _
         ∙ ap (λ (b : Bool). tally b 0) (sym (holds-tail t v row nodes ar′ an′ (λ h. eqb-false v t e (sym h))))

@@ -5,7 +5,8 @@ use lib.ListN.{length}
 use lib.Dec.{lit≤}
 use Rattle.packing.specs.Rows.{rowsAt, firstCrowded}
 use Rattle.packing.specs.Answers.{rowFound}
-use Rattle.crowding.proofs.Crowded.{first-none-of-few, first-crowded-below, found-row, found-none, length-rows}
+use Rattle.packing.proofs.RowsAt.{length-rowsAt}
+use Rattle.crowding.proofs.Crowded.{first-none-of-few, first-crowded-below, found-row, found-none}
 use native.Mathlib.Omega.{arith}
 use borrow.Author.Needs.{needs}
 use Rattle.crowding.proofs.first_crowded.Statement.{statement}
@@ -15,7 +16,7 @@ returns : tie.Need-returns
 returns c =
     let g = c .before .before .args in
     sym (ap rowFound (first-none-of-few (g .x) (g .bound) (rowsAt (g .r) (g .c) (g .rows .now))
-    (omega (arith, length-rows (g .r) (g .c) (g .rows .now), c .if1 .taken))))
+    (omega (arith, length-rowsAt (g .r) (g .c) (g .rows .now), c .if1 .taken))))
 
 slice-aggregate-least-crowded : tie.Need-slice-aggregate-least-crowded
 slice-aggregate-least-crowded c = search needs
@@ -38,7 +39,7 @@ returns-3 c =
     let rows = rowsAt (g .r) (g .c) (g .rows .now) in
     found-none (c .before .before .before .least-crowded .result) (length rows) (firstCrowded (g .x) (g .bound) rows)
     (c .before .before .before .least-crowded .ensures) (c .if2 .left) (first-crowded-below (g .x) (g .bound) rows)
-    (omega (arith, length-rows (g .r) (g .c) (g .rows .now), c .before .before .before .before .before .before .before .before .pre .0 .0))
+    (omega (arith, length-rowsAt (g .r) (g .c) (g .rows .now), c .before .before .before .before .before .before .before .before .pre .0 .0))
 
 pub first-crowded-spec : {M : Type 1} → statement M
 first-crowded-spec =

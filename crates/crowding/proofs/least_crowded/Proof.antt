@@ -4,9 +4,10 @@ use mathlib.Core.Path.{ap, _∙_}
 use lib.ListN.{length, length-take}
 use Rattle.lists.specs.Lists.{count}
 use Rattle.packing.specs.Rows.{rowsAt, firstCrowded}
+use Rattle.packing.proofs.RowsAt.{length-rowsAt}
 use Rattle.crowding.specs.Keys.{rowsKeys}
 use Rattle.crowding.specs.Shared.{leastShared}
-use Rattle.crowding.proofs.Crowded.{filled-le, first-filled, ordered-le, first-ordered, good-rows, length-rows, scan-first, place-number}
+use Rattle.crowding.proofs.Crowded.{filled-le, first-filled, ordered-le, first-ordered, good-rows, scan-first, place-number}
 use native.Mathlib.Omega.{arith}
 use borrow.Author.Needs.{needs}
 use Rattle.crowding.proofs.least_crowded.Statement.{statement}
@@ -68,7 +69,7 @@ returns c =
     let filled = f .last .1 .1 .1 .1 .0 in
     let sorted = c .before .before .before .before .before .before .before .sort in
     let rows = rowsAt (g .r) (g .c) (g .rows .now) in
-    let few : length rows ≤ 65536 = omega (arith, length-rows (g .r) (g .c) (g .rows .now), c .before .before .before .before .before .before .before .before .before .before .before .before .before .before .before .before .before .pre .0 .0) in
+    let few : length rows ≤ 65536 = omega (arith, length-rowsAt (g .r) (g .c) (g .rows .now), c .before .before .before .before .before .before .before .before .before .before .before .before .before .before .before .before .before .pre .0 .0) in
     c .scan .ensures
     ∙ ap (leastShared (g .bound) 65536) (first-ordered keys filled (f .result) (f .ensures .0) (f .ensures .1) (sorted .last .0) (sorted .kept .0))
     ∙ scan-first (g .x) (g .bound) rows
