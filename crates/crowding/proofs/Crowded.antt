@@ -1,8 +1,8 @@
 -- The first crowded row of a layer is what the scan of its sorted keys finds. Assumes nothing.
-use Prim.Native.Nat.{ℕ, zero, suc, _/_, _%_, _-_, _≤_, _<_}
+use Prim.Native.Nat.{ℕ, suc, _/_, _%_, _-_, _≤_, _<_}
 use mathlib.Core.Path.{_≡_, refl, sym, ap, _∙_}
 use mathlib.Core.Bool.{Bool, true, false, _&&_}
-use mathlib.Core.List.{List, [], _∷_, _++_}
+use mathlib.Core.List.{List, _++_}
 use mathlib.Core.Option.{Option, none, some}
 use native.Mathlib.Nat.{le-antisymm, sub-zero}
 use native.Mathlib.Omega.{arith}

@@ -10,18 +10,18 @@ use lib.Dec.{T, leb, le→leb, eqb}
 use borrow.Author.Tests.{eqb-true, eqb-false}
 use mathlib.Core.Bool.{Bool, true, false}
 use Rattle.lists.specs.Lists.{All}
+use Rattle.lists.proofs.Tests.{and-both}
 use Rattle.packing.specs.Rows.{ascending, rowsAt}
-use Rattle.crowding.proofs.Lists.{and-T}
 use Rattle.crowding_test.specs.Pattern.{GroupedTo}
 
 five : (a b c d e : ℕ) → a < b → b < c → c < d → d < e → T (ascending 0 (a ∷ b ∷ c ∷ d ∷ e ∷ []))
 unfolding ascending
 five a b c d e ab bc cd de =
-    and-T (leb 0 a) (leb (suc a) b && (leb (suc b) c && (leb (suc c) d && (leb (suc d) e && true)))) (le→leb 0 a (omega arith))
-    (and-T (leb (suc a) b) (leb (suc b) c && (leb (suc c) d && (leb (suc d) e && true))) (le→leb (suc a) b ab)
-    (and-T (leb (suc b) c) (leb (suc c) d && (leb (suc d) e && true)) (le→leb (suc b) c bc)
-    (and-T (leb (suc c) d) (leb (suc d) e && true) (le→leb (suc c) d cd)
-    (and-T (leb (suc d) e) true (le→leb (suc d) e de) tt))))
+    and-both (leb 0 a) (leb (suc a) b && (leb (suc b) c && (leb (suc c) d && (leb (suc d) e && true)))) (le→leb 0 a (omega arith))
+    (and-both (leb (suc a) b) (leb (suc b) c && (leb (suc c) d && (leb (suc d) e && true))) (le→leb (suc a) b ab)
+    (and-both (leb (suc b) c) (leb (suc c) d && (leb (suc d) e && true)) (le→leb (suc b) c bc)
+    (and-both (leb (suc c) d) (leb (suc d) e && true) (le→leb (suc c) d cd)
+    (and-both (leb (suc d) e) true (le→leb (suc d) e de) tt))))
 
 pub grouped-ascending : (c : ℕ) (l : List ℕ) → c * 5 ≤ length l → GroupedTo (c * 5) l
     → All (λ row. T (ascending 0 row)) (rowsAt 5 c l)

@@ -20,11 +20,11 @@ use Rattle.packing.specs.Answers.{rowFound}
 use Rattle.packing.specs.declared.RowFound.{RowFound}
 use Rattle.packing.specs.declared.RowFound.the-variants.{At, Nothing}
 use Rattle.packing.specs.declared.Record.{Record}
+use Rattle.packing.proofs.RowsAt.{length-rowsAt}
 use Rattle.layers.specs.Layers.{Layer, LayerHead, sizes, allRows, layersAt, firstOf, firstCrowdedOf, refuseRow}
 use Rattle.layers.specs.Answers.{arrayHeads, rowsAnswer}
 use Rattle.layers.specs.declared.RowsAnswer.{RowsAnswer}
 use Rattle.layers.specs.declared.RowsAnswer.the-variants.{Good, Refused}
-use Rattle.layers.proofs.Layouts.{length-rowsAt}
 use Rattle.layers.proofs.Arrays.{headAt, drop-arrayHeads, drop-arrayHeads-all}
 
 -- a part up to the end

@@ -1,47 +1,18 @@
 -- The rows of layers one after another, and the layers that they are taken apart into. Assumes nothing.
-use Prim.Native.Nat.{ℕ, zero, suc, _+_, _*_, _≤_}
+use Prim.Native.Nat.{ℕ, _+_, _*_, _≤_}
 use native.Mathlib.Omega.{arith}
 use native.Mathlib.Nat.{zero-mul}
-use mathlib.Core.Path.{_≡_, refl, ap}
+use mathlib.Core.Path.{_≡_, refl}
 use mathlib.Core.List.{List, [], _∷_, _++_, flatten, append-assoc}
 use lib.ListN.{length, take, drop, length-drop}
-use lib.Seq.{take-add, take-at, drop-at, length-take-le}
+use lib.Seq.{take-add, drop-at}
 use Rattle.lists.specs.Lists.{All, total}
 use Rattle.lists.proofs.Alls.{all-append, all-append-left, all-append-right}
 use Rattle.lists.proofs.Counts.{flatten-append}
 use Rattle.packing.specs.Rows.{rowsAt}
+use Rattle.packing.proofs.RowsAt.{length-rowsAt, flatten-rowsAt, rowsAt-lengths, rowsAt-flatten}
 use Rattle.layers.specs.Layers.{Layer, LayerHead, size, sizes, allRows, headsOf, layersAt}
 use Rattle.layers.proofs.Lengths.{length-flatten-rows}
-
-pub length-rowsAt : (r c : ℕ) (s : List ℕ) → length (rowsAt r c s) ≡ c
-unfolding rowsAt
-length-rowsAt r zero s = refl
-length-rowsAt r (suc c) s = ap suc (length-rowsAt r c (drop r s))
-
-pub flatten-rowsAt : (r c : ℕ) (s : List ℕ) → flatten (rowsAt r c s) ≡ take (c * r) s
-unfolding rowsAt flatten
-flatten-rowsAt r zero s = rw zero-mul
-flatten-rowsAt r (suc c) s =
-    let e : suc c * r ≡ r + c * r = omega arith in
-    rw (flatten-rowsAt r c (drop r s), e, take-add r (c * r) s)
-
-pub rowsAt-lengths : (r c : ℕ) (s : List ℕ) → c * r ≤ length s → All (λ row. length row ≡ r) (rowsAt r c s)
-unfolding rowsAt
-rowsAt-lengths r zero s h = tt
-rowsAt-lengths r (suc c) s h =
-    (length-take-le r s (omega arith), rowsAt-lengths r c (drop r s) (rw length-drop (omega arith)))
-
-pub rowsAt-flatten : (r : ℕ) (rows : List (List ℕ)) (t : List ℕ) → All (λ row. length row ≡ r) rows
-    → rowsAt r (length rows) (flatten rows ++ t) ≡ rows
-unfolding rowsAt flatten
-rowsAt-flatten r [] t h = refl
-rowsAt-flatten r (row ∷ rows) t h =
-    rw (
-      append-assoc row (flatten rows) t,
-      take-at row (flatten rows ++ t) r (h .0),
-      drop-at row (flatten rows ++ t) r (h .0),
-      rowsAt-flatten r rows t (h .1),
-    )
 
 pub headsOf-layersAt : (r : ℕ) (heads : List LayerHead) (s : List ℕ) → headsOf (layersAt r heads s) ≡ heads
 unfolding layersAt

@@ -1,13 +1,11 @@
 -- The answers of checking rows: 1 or 5 for their length, then 6 over all rows, then 7. Assumes nothing.
-use Prim.Native.Nat.{ℕ, zero, suc, _+_, _*_, _≤_, _<_}
-use native.Mathlib.Omega.{arith}
-use native.Mathlib.Nat.{zero-add, suc-add, mul-le-mul, mul-le-mul-right, le-of-lt, le-refl}
+use Prim.Native.Nat.{ℕ, _+_, _*_, _≤_, _<_}
+use native.Mathlib.Nat.{mul-le-mul, mul-le-mul-right, le-of-lt, le-refl}
 use mathlib.Core.Path.{_≡_, refl, sym, _∙_, ap}
-use mathlib.Core.List.{List, [], _∷_, _++_, flatten}
+use mathlib.Core.List.{List, [], _∷_, flatten}
 use mathlib.Core.Option.{Option, none, some}
 use mathlib.Core.Bool.{not}
 use lib.ListN.{length, take, drop}
-use lib.Seq.{drop-drop}
 use lib.Dec.{T, leb}
 use borrow.Author.Tests.{le-leb, lt-leb}
 use Rattle.lists.specs.Lists.{All, every, total}
@@ -22,24 +20,16 @@ use Rattle.packing.specs.declared.RowFound.{RowFound}
 use Rattle.packing.specs.declared.RowFound.the-variants.{At, Nothing}
 use Rattle.packing.specs.declared.Record.{Record}
 use Rattle.packing.proofs.Test.{good-iff-in-order}
+use Rattle.packing.proofs.RowsAt.{length-rowsAt, rowsAt-add}
 use Rattle.layers.specs.Layers.{Layer, LayerHead, sizes, allRows, layersAt, firstCrowdedOf, refuseRow, checkRows}
 use Rattle.layers.specs.Answers.{rowsAnswer}
 use Rattle.layers.specs.declared.RowsAnswer.{RowsAnswer}
 use Rattle.layers.specs.declared.RowsAnswer.the-variants.{Good, Refused}
-use Rattle.layers.proofs.Layouts.{length-rowsAt}
 use Rattle.layers.proofs.CrowdLoop.{Ordered, rowFound-at, rowFound-nothing}
 
 -- the rows' bytes are few
 pub rows-small : {rows r : ℕ} → rows ≤ 4_096 → r ≤ 5 → rows * r ≤ 20_480
 rows-small h k = mul-le-mul h k
-
--- rows, and the rows after them
-rowsAt-add : (r c d : ℕ) (s : List ℕ) → rowsAt r (c + d) s ≡ rowsAt r c s ++ rowsAt r d (drop (c * r) s)
-unfolding rowsAt
-rowsAt-add r zero d s = rw zero-add (let e : 0 * r ≡ 0 = omega arith in rw e)
-rowsAt-add r (suc c) d s =
-    let e : suc c * r ≡ r + c * r = omega arith in
-    rw (suc-add, rowsAt-add r c d (drop r s), drop-drop (c * r) r s, e)
 
 -- the rows of all layers are the rows that follow one another in the bytes
 allRows-layersAt : (r : ℕ) (heads : List LayerHead) (s : List ℕ) → allRows (layersAt r heads s) ≡ rowsAt r (sizes heads) s

@@ -2,7 +2,7 @@
 use Prim.Native.Nat.{ℕ, _+_, max, _≤_, _<_}
 use native.Mathlib.Omega.{arith}
 use mathlib.Core.Path.{_≡_}
-use mathlib.Core.List.{List, []}
+use mathlib.Core.List.{List}
 use lib.ListN.{length, getD, drop, drop-of-length-le}
 use Rattle.lists.specs.Lists.{largest}
 use Rattle.lists.proofs.Parts.{drop-next}
