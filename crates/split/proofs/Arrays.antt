@@ -1,21 +1,22 @@
 -- What a split looks at: mu and m of the layers below s. So the arrays of a pack's numbers serve as well as its layers.
 -- Assumes nothing.
-use Prim.Native.Nat.{ℕ, zero, suc, _+_, _-_, _≤_, _<_}
-use native.Mathlib.Nat.{lt-suc-self}
+use Prim.Native.Nat.{ℕ, zero, suc, _+_, _-_, _≤_, _<_, zero-le}
+use native.Mathlib.Nat.{lt-suc-self, le-trans, le-of-eq}
 use native.Mathlib.Omega.{arith}
 use mathlib.Core.Path.{_≡_, refl, sym, ap, ap₂, _∙_}
 use mathlib.Core.Bool.{Bool, true, false, _||_}
 use mathlib.Core.List.{List, [], _∷_, _++_, map}
-use lib.ListN.{length, getD, take, replicate, getD-replicate, List·getD-append, List·getD-map, List·getD-eq-default}
+use lib.ListN.{length-take, length, getD, take, replicate, getD-replicate, List·getD-append, List·getD-map, List·getD-eq-default}
 use lib.Seq.{getD-take, getD-append-add, take-nil}
 use lib.Dec.{ltb}
 use borrow.Author.Tests.{ltb-true, ltb-false}
-use Rattle.lists.specs.Lists.{any}
+use Rattle.lists.specs.Lists.{All, any, total}
+use Rattle.lists.proofs.Alls.{all-map}
 use Rattle.binomial.specs.Choose.{choose}
-use Rattle.layers.specs.Layers.{LayerHead, five}
+use Rattle.layers.specs.Layers.{LayerHead, sizes, five}
 use Rattle.split.specs.Splits.{layerAt, hasBlock, lossOf, leastLoss, bestCount, namedCounts}
 use Rattle.split.specs.Arrays.{arrayHeads}
-use Rattle.split.specs.Table.{termLoss}
+use Rattle.split.specs.Table.{termLoss, Limits}
 use Rattle.split.proofs.Congruence.{least-congr, lastLeast-congr}
 use Rattle.split.proofs.LeastLoss.{lossAt}
 use Rattle.split.proofs.Choosing.{namedCounts-suc}
@@ -116,3 +117,41 @@ leastLoss-arraysOf heads s k b h =
 
 pub hasBlock-arraysOf : (heads : List LayerHead) (s : ℕ) → s ≤ 5 → hasBlock (arraysOf heads) s ≡ hasBlock heads s
 hasBlock-arraysOf heads s h = hasBlock-congr (arraysOf heads) heads s (λ y g. layerAt-arraysOf heads y (omega arith))
+
+-- no number of the array is above the layer's own
+getD-five-le : (l : List ℕ) (x : ℕ) → getD (five l) x 0 ≤ getD l x 0
+getD-five-le l x = go (ltb x 5) refl
+  where
+    go : (t : Bool) → ltb x 5 ≡ t → getD (five l) x 0 ≤ getD l x 0
+    go true e = le-of-eq (getD-five l x (ltb-true x 5 e))
+    go false e =
+        let g = ltb-false x 5 e in
+        rw (List·getD-eq-default (five l) 0 {n = x} (omega (arith, length-take 5 (l ++ replicate 5 0)))) zero-le
+
+getD-le-of-all : (l : List ℕ) (n x : ℕ) → All (λ a. a ≤ n) l → getD l x 0 ≤ n
+getD-le-of-all [] n x h = zero-le
+getD-le-of-all (a ∷ l) n zero h = h .0
+getD-le-of-all (a ∷ l) n (suc x) h = getD-le-of-all l n x (h .1)
+
+getD-le-total : (l : List ℕ) (x : ℕ) → getD l x 0 ≤ total l
+unfolding total
+getD-le-total [] x = zero-le
+getD-le-total (a ∷ l) zero = omega arith
+getD-le-total (a ∷ l) (suc x) = let h = getD-le-total l x in omega arith
+
+-- an order within limits on a pack within limits meets what `choose_counts` requires
+pub limits-arraysOf : (heads : List LayerHead) (s k b : ℕ) → All (λ head. head .bound ≤ 4_096) heads → sizes heads ≤ 4_096
+    → 1 ≤ s → s ≤ 5 → s ≤ k → k ≤ 254 → b ≤ 4_096
+    → Limits (five (map (λ head. head .bound) heads)) (five (map (λ head. head .size) heads)) s k b
+limits-arraysOf heads s k b bounds blocks some few least-k most-k most-b =
+    record {
+      s-pos = some;
+      s-le = few;
+      s-le-k = least-k;
+      k-le = most-k;
+      b-le = most-b;
+      mu-le = λ x. le-trans (getD-five-le (map (λ head. head .bound) heads) x)
+          (getD-le-of-all (map (λ head. head .bound) heads) 4_096 x (all-map (λ n. n ≤ 4_096) (λ head. head .bound) heads bounds));
+      m-le = λ x. le-trans (getD-five-le (map (λ head. head .size) heads) x)
+          (le-trans (getD-le-total (map (λ head. head .size) heads) x) blocks);
+    }

@@ -17,7 +17,8 @@ eq-map-upTo f l n e h =
     (λ i g. let k : i < n = omega arith in h i k ∙ sym (getD-map-upTo f n i 0 k))
 
 -- a store at i, with f known below it
-pub getD-set-below : (f : ℕ → ℕ) (l : List ℕ) (i v : ℕ) → i < length l → v ≡ f i → ((j : ℕ) → j < i → getD l j 0 ≡ f j) → (j : ℕ) → j < i + 1 → getD (set l i v) j 0 ≡ f j
+pub getD-set-below : (f : ℕ → ℕ) (l : List ℕ) (i v : ℕ) → i < length l → v ≡ f i → ((j : ℕ) → j < i → getD l j 0 ≡ f j)
+    → (j : ℕ) → j < i + 1 → getD (set l i v) j 0 ≡ f j
 getD-set-below f l i v h e below j g = go (eq-or-lt-of-le (le-of-lt-suc j i g))
   where
     le-of-lt-suc : (j i : ℕ) → j < i + 1 → j ≤ i
@@ -28,6 +29,7 @@ getD-set-below f l i v h e below j g = go (eq-or-lt-of-le (le-of-lt-suc j i g))
     go (inr q) = getD-set-other l i j v 0 (λ p. omega arith) ∙ below j q
 
 -- a store at i leaves what stands after it
-pub getD-set-after : (l k : List ℕ) (i v : ℕ) → ((j : ℕ) → i ≤ j → getD l j 0 ≡ getD k j 0) → (j : ℕ) → i + 1 ≤ j → getD (set l i v) j 0 ≡ getD k j 0
+pub getD-set-after : (l k : List ℕ) (i v : ℕ) → ((j : ℕ) → i ≤ j → getD l j 0 ≡ getD k j 0)
+    → (j : ℕ) → i + 1 ≤ j → getD (set l i v) j 0 ≡ getD k j 0
 getD-set-after l k i v after j g =
     getD-set-other l i j v 0 (λ p. omega arith) ∙ after j (omega arith)

@@ -45,18 +45,21 @@ module _ (t : LossTerms) (below : List ℕ) where
       rw (sub-self c) (sym (leastFrom-zero (sumAt t below c) c ∙ ap (λ i. termLoss t c + getD below i 0) (sub-self c)))
 
   -- where the next larger count costs no more, a count is of no use to more records
-  sumAt-skip : (c j : ℕ) → Rising below → suc c ≤ j → j < length below → termLoss t (suc c) ≤ termLoss t c → sumAt t below j (suc c) ≤ sumAt t below j c
+  sumAt-skip : (c j : ℕ) → Rising below → suc c ≤ j → j < length below → termLoss t (suc c) ≤ termLoss t c
+      → sumAt t below j (suc c) ≤ sumAt t below j c
   sumAt-skip c j r h g l =
       let k = r .rising (j - suc c) (j - c) (omega arith) (omega arith) in
       omega arith
 
-  entry-skip : (c j : ℕ) → Rising below → suc c ≤ j → j < length below → termLoss t (suc c) ≤ termLoss t c → leastFrom (sumAt t below j) (suc c) (j - suc c) ≡ leastFrom (sumAt t below j) c (j - c)
+  entry-skip : (c j : ℕ) → Rising below → suc c ≤ j → j < length below → termLoss t (suc c) ≤ termLoss t c
+      → leastFrom (sumAt t below j) (suc c) (j - suc c) ≡ leastFrom (sumAt t below j) c (j - c)
   entry-skip c j r h g l =
       let e : j - c ≡ suc (j - suc c) = omega arith in
       rw e (sym (leastFrom-skip (sumAt t below j) c (j - suc c) (sumAt-skip c j r h g l)))
 
   -- otherwise the entry is lowered
-  entry-lower : (c j : ℕ) → suc c ≤ j → min (termLoss t c + getD below (j - c) 0) (leastFrom (sumAt t below j) (suc c) (j - suc c)) ≡ leastFrom (sumAt t below j) c (j - c)
+  entry-lower : (c j : ℕ) → suc c ≤ j
+      → min (termLoss t c + getD below (j - c) 0) (leastFrom (sumAt t below j) (suc c) (j - suc c)) ≡ leastFrom (sumAt t below j) c (j - c)
   entry-lower c j h =
       let e : j - c ≡ suc (j - suc c) = omega arith in
       rw e (rw (leastFrom-suc (sumAt t below j) c (j - suc c), e) refl)

@@ -55,7 +55,8 @@ module _ (layers : List LayerHead) (s k w : ℕ) where
       (map-upTo-congr _ _ w (λ b h. least-congr _ _ b (λ c l. sumAt-tableRow x b c h)))
 
   -- "the largest c": the count of layer x + 1
-  best-tableRow : (x left : ℕ) → left < w → lastLeast (sumAt (termsOf layers s k (suc x)) (tableRow layers s k w x) left) left ≡ bestCount layers s k (suc x) left
+  best-tableRow : (x left : ℕ) → left < w
+      → lastLeast (sumAt (termsOf layers s k (suc x)) (tableRow layers s k w x) left) left ≡ bestCount layers s k (suc x) left
   unfolding bestCount
   best-tableRow x left h = lastLeast-congr _ _ left (λ c l. sumAt-tableRow x left c h)
 
@@ -69,6 +70,7 @@ module _ (layers : List LayerHead) (s k w : ℕ) where
   rowAbove-before zero h = absurd (omega arith)
   rowAbove-before (suc x) h = let e : suc x - 1 ≡ x = omega arith in rw e (rowAbove-tableRow x)
 
-  pub best-before : (x left : ℕ) → 1 ≤ x → left < w → lastLeast (sumAt (termsOf layers s k x) (tableRow layers s k w (x - 1)) left) left ≡ bestCount layers s k x left
+  pub best-before : (x left : ℕ) → 1 ≤ x → left < w
+      → lastLeast (sumAt (termsOf layers s k x) (tableRow layers s k w (x - 1)) left) left ≡ bestCount layers s k x left
   best-before zero left h l = absurd (omega arith)
   best-before (suc x) left h l = let e : suc x - 1 ≡ x = omega arith in rw e (best-tableRow x left l)

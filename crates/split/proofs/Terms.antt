@@ -16,7 +16,7 @@ use Rattle.placement.specs.Figure.{loss}
 use Rattle.split.specs.declared.loss.LossTerms.{LossTerms}
 use Rattle.split.specs.Splits.{layerAt, copiesFor, noSplit, lossOf}
 use Rattle.split.specs.Arrays.{arrayHeads}
-use Rattle.split.specs.Table.{termsOf, termLoss, TermLimits}
+use Rattle.split.specs.Table.{termsOf, termLoss, TermLimits, Limits}
 use Rattle.split.proofs.LossOf.{refused-test, blocks-test, no-record-test}
 
 -- the losses of layer x
@@ -69,11 +69,12 @@ pub terms-of-arrays : (mu m : List ℕ) (s k x : ℕ) {above below : ℕ} → x 
 terms-of-arrays mu m s k x h e g = rw (e, g, add-one x, layerAt-arrayHeads mu m x h) refl
 
 -- they are within the limits
-pub terms-limits : (mu m : List ℕ) (s k x : ℕ) → x < s → s ≤ 5 → s ≤ k → k ≤ 254 → getD mu x 0 ≤ 4_096 → getD m x 0 ≤ 4_096 → TermLimits (termsOf (arrayHeads mu m) s k x)
-terms-limits mu m s k x h five-le le small bound-le size-le =
+pub terms-limits : (mu m : List ℕ) (s k b x : ℕ) → Limits mu m s k b → x < s → TermLimits (termsOf (arrayHeads mu m) s k x)
+terms-limits mu m s k b x limits h =
+    let few = limits .s-le in
     record {
-      bound-le = rw (layerAt-arrayHeads mu m x (omega arith)) bound-le;
-      size-le = rw (layerAt-arrayHeads mu m x (omega arith)) size-le;
-      failed-lt = lt-of-le-of-lt (le-refl _) (choose-lt-of-le-254 k (suc x) small (omega arith));
+      bound-le = rw (layerAt-arrayHeads mu m x (omega arith)) (limits .mu-le x);
+      size-le = rw (layerAt-arrayHeads mu m x (omega arith)) (limits .m-le x);
+      failed-lt = lt-of-le-of-lt (le-refl _) (choose-lt-of-le-254 k (suc x) (limits .k-le) (omega arith));
       lost-pos = choose-positive s (suc x) h;
     }

@@ -39,7 +39,8 @@ sub-from c = search needs
 
 -- in a turn the row below layer `x` ends within the working slice
 row-within : (c : tie.In-loop Inv-loop μ-loop)
-    → (c .before .loop .x - 1) * (c .before .before .before .before .before .before .before .args .b + 1) + (c .before .before .before .before .before .before .before .args .b + 1) ≤ length (c .before .before .before .before .before .before .before .args .work .now)
+    → let s = c .before .before .before .before .before .before .before in
+    (c .before .loop .x - 1) * (s .args .b + 1) + (s .args .b + 1) ≤ length (s .args .work .now)
 row-within c =
     let s = c .before .before .before .before .before .before .before in
     let below = c .before .loop .inv .x-lt in
@@ -80,7 +81,7 @@ best-count-requires c κs =
     let limit = s .pre .0 in
     let turn = c .before .before .before .loop-test .taken in
     let filled = c .before .before .before .before .before .before .before .fill .ensures in
-    let limits = terms-limits (s .args .mu) (s .args .m) (s .args .s) (s .args .k) (l .x) (l .inv .x-lt) (limit .s-le) (limit .s-le-k) (limit .k-le) (limit .mu-le (l .x)) (limit .m-le (l .x)) in
+    let limits = terms-limits (s .args .mu) (s .args .m) (s .args .s) (s .args .k) (s .args .b) (l .x) limit (l .inv .x-lt) in
     let n = length-lentBelow (arrayHeads (s .args .mu) (s .args .m)) (s .args .s) (s .args .k) (s .args .b) (l .x) (s .args .work .now) _ filled turn (l .inv .x-lt) in
     let fits = l .inv .left-le in (
       rw (c .terms .ensures) limits,
@@ -92,7 +93,8 @@ best-count-requires c κs =
 -- the count is the definition's
 best : (c : tie.After-best-count Inv-loop μ-loop)
     → let s = c .before .before .before .before .before .before .before .before .before .before .before in
-    c .best-count .result ≡ bestCount (arrayHeads (s .args .mu) (s .args .m)) (s .args .s) (s .args .k) (c .before .before .before .before .before .loop .x) (c .before .before .before .before .before .loop .left)
+    let l = c .before .before .before .before .before .loop in
+    c .best-count .result ≡ bestCount (arrayHeads (s .args .mu) (s .args .m)) (s .args .s) (s .args .k) (l .x) (l .left)
 best c =
     let s = c .before .before .before .before .before .before .before .before .before .before .before in
     let l = c .before .before .before .before .before .loop in
@@ -102,10 +104,14 @@ best c =
     (c .before .terms .result) (l .left) (c .before .terms .ensures) (l .inv .left-le)
 
 mul-counts : tie.Need-mul-counts Inv-loop μ-loop
-mul-counts c = let h = c .before .before .before .before .before .loop .inv .x-lt in omega (arith, c .before .before .before .before .before .before .before .before .before .before .before .pre .0 .s-le)
+mul-counts c =
+    let h = c .before .before .before .before .before .loop .inv .x-lt in
+    omega (arith, c .before .before .before .before .before .before .before .before .before .before .before .pre .0 .s-le)
 
 array-write-counts : tie.Need-array-write-counts Inv-loop μ-loop
-array-write-counts c = let h = c .before .before .before .before .before .loop .inv .x-lt in omega (arith, c .before .before .before .before .before .before .before .before .before .before .before .pre .0 .s-le)
+array-write-counts c =
+    let h = c .before .before .before .before .before .loop .inv .x-lt in
+    omega (arith, c .before .before .before .before .before .before .before .before .before .before .before .pre .0 .s-le)
 
 sub-left : tie.Need-sub-left Inv-loop μ-loop
 sub-left c =
@@ -123,7 +129,8 @@ loop-again : tie.Need-loop-again Inv-loop μ-loop
 loop-again c =
     let s = c .before .before .before .before .before .before .before .before .before .before .before in
     let l = c .before .before .before .before .before .loop in
-    chosen-next (arrayHeads (s .args .mu) (s .args .m)) (s .args .s) (s .args .k) (s .args .b) (l .x) (l .left) (l .counts) (c .best-count .result) (c .before .before .before .before .loop-test .taken) (s .pre .0 .s-le) (best c) (l .inv)
+    chosen-next (arrayHeads (s .args .mu) (s .args .m)) (s .args .s) (s .args .k) (s .args .b) (l .x) (l .left)
+    (l .counts) (c .best-count .result) (c .before .before .before .before .loop-test .taken) (s .pre .0 .s-le) (best c) (l .inv)
 
 array-write-counts-2 : tie.Need-array-write-counts-2 Inv-loop μ-loop
 array-write-counts-2 c = omega arith
@@ -137,7 +144,10 @@ returns c =
     let l = c .before .loop in
     let filled = c .before .before .before .before .fill .ensures in
     let e : l .x ≡ 0 = omega arith in
-    (chosen-all (arrayHeads (s .args .mu) (s .args .m)) (s .args .s) (s .args .k) (s .args .b) (l .left) (l .counts) (omega (arith, s .pre .0 .b-le)) (rw e at (l .inv)), (filled .same-length, filled .rest))
+    let done = chosen-all (arrayHeads (s .args .mu) (s .args .m)) (s .args .s) (s .args .k) (s .args .b) (l .left) (l .counts)
+    (omega (arith, s .pre .0 .b-le)) (rw e at (l .inv))
+    in
+    (done, (filled .same-length, filled .rest))
 
 pub choose-counts-spec : {M : Type 1} → statement M
 choose-counts-spec =

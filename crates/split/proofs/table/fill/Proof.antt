@@ -42,7 +42,7 @@ lowest-row-requires : tie.Need-lowest-row-requires Inv-loop μ-loop
 lowest-row-requires c κs =
     let s = c .before .before .before in
     let l = s .pre .0 in
-    let limits = terms-limits (s .args .mu) (s .args .m) (s .args .s) (s .args .k) 0 (l .s-pos) (l .s-le) (l .s-le-k) (l .k-le) (l .mu-le 0) (l .m-le 0) in
+    let limits = terms-limits (s .args .mu) (s .args .m) (s .args .s) (s .args .k) (s .args .b) 0 l (l .s-pos) in
     (rw (c .terms .ensures) limits, length-first-row (s .args .b) (s .args .work .now) (l .b-le))
 
 -- where the loop begins row 0 is filled
@@ -88,7 +88,7 @@ raise-row-requires c κs =
     let limit = s .pre .0 in
     let below : l .x < s .args .s = omega (arith, c .before .before .loop-test .taken) in
     let heads = arrayHeads (s .args .mu) (s .args .m) in
-    let limits = terms-limits (s .args .mu) (s .args .m) (s .args .s) (s .args .k) (l .x) below (limit .s-le) (limit .s-le-k) (limit .k-le) (limit .mu-le (l .x)) (limit .m-le (l .x)) in
+    let limits = terms-limits (s .args .mu) (s .args .m) (s .args .s) (s .args .k) (s .args .b) (l .x) limit below in
     let h = row-end (s .args .s) (s .args .b + 1) (l .x) below in
     let same = l .inv .3 .same-length in
     let fits = l .inv .2 in (
@@ -98,7 +98,9 @@ raise-row-requires c κs =
     )
 
 add-x : tie.Need-add-x Inv-loop μ-loop
-add-x c = let h = c .before .before .before .before .before .before .before .before .before .before .before .before .before .pre .0 .s-le in omega (arith, c .before .before .before .before .before .before .loop .inv .1)
+add-x c =
+    let h = c .before .before .before .before .before .before .before .before .before .before .before .before .before .pre .0 .s-le in
+    omega (arith, c .before .before .before .before .before .before .loop .inv .1)
 
 loop-less : tie.Need-loop-less Inv-loop μ-loop
 loop-less c = omega arith
