@@ -8,7 +8,7 @@ use lib.ListN.{length, getD, take, drop}
 use lib.Seq.{drop-drop}
 use Rattle.lists.specs.Lists.{All, total, upTo}
 use Rattle.lists.proofs.Alls.{all-imp}
-use Rattle.lists.proofs.UpTo.{length-map-upTo, getD-map-upTo, map-upTo-congr}
+use Rattle.lists.proofs.UpTo.{length-map-upTo, getD-map-upTo, map-upTo-congr, take-map-upTo}
 use Rattle.packing.specs.Rows.{rowsAt, repeated}
 use Rattle.layers.specs.Layers.{Layer, LayerHead, size, sizes, allRows, headsOf, layersAt}
 use Rattle.layers.proofs.Layouts.{headsOf-layersAt}
@@ -16,7 +16,6 @@ use Rattle.pack.specs.Pack.{Pack}
 use Rattle.split.specs.Splits.{Share, Split, layerAt, copiesFor, shareOf, shareHead, splitHeads}
 use Rattle.split.proofs.Bounds.{copiesFor-mul-bound-le}
 use Rattle.split.proofs.Heads.{split-count-le}
-use Rattle.rows.proofs.Lists.{take-map-upTo}
 use Rattle.layers.specs.Answers.{arrayHeads}
 use Rattle.planner.specs.Planning.{blocksAt, placed, splitPlacement, OrderLimits}
 use Rattle.planner.specs.Writing.{totalBelow, lambdaOf, layerRows, arrayPack, leastCopies, countsPlacement, Writable}

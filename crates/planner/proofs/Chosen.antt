@@ -8,7 +8,7 @@ use mathlib.Core.List.{List, map, map-map}
 use lib.ListN.{length, getD, drop}
 use lib.Seq.{take-length}
 use Rattle.lists.specs.Lists.{upTo}
-use Rattle.lists.proofs.UpTo.{map-upTo-congr}
+use Rattle.lists.proofs.UpTo.{map-upTo-congr, take-map-upTo}
 use Rattle.refusal.specs.declared.Refusal.{Refusal}
 use Rattle.refusal.specs.Checked.{Checked, accepted, refused, _>>=_}
 use Rattle.packing.proofs.Copies.{length-repeated}
@@ -24,7 +24,6 @@ use Rattle.split.proofs.Heads.{splitHeads-congr}
 use Rattle.split.proofs.Named.{namedSplit-is-split}
 use Rattle.split.proofs.NamedCounts.{length-namedCounts}
 use Rattle.split.proofs.Terms.{layerAt-arrayHeads as layerAt-fiveHeads}
-use Rattle.rows.proofs.Lists.{take-map-upTo}
 use Rattle.planner.specs.Planning.{blocksAt, placed, splitPlacement, namedPlacement, workNeeded, outputAfter, WorkAfter}
 use Rattle.planner.specs.Answers.{planAnswer}
 use Rattle.planner.specs.Steps.{checkSteps, planPack, orderAnswer}

@@ -22,7 +22,7 @@ use Rattle.pack.specs.declared.PackAnswer.{PackAnswer}
 use Rattle.pack.specs.declared.PackAnswer.the-variants.{Accepted, Refused}
 use Rattle.pack.specs.declared.PackCheck.{PackCheck}
 use Rattle.pack.proofs.Accepted.{pack-accepted-iff}
-use Rattle.rows.proofs.Lists.{take-drop-rest}
+use Rattle.lists.proofs.Writing.{take-drop-rest}
 use Rattle.planner.specs.Planning.{plan}
 use Rattle.planner.specs.Steps.{planPack}
 use Rattle.planner.specs.Writing.{arrayPack, PackHeld}

@@ -13,8 +13,8 @@ use Rattle.lists.proofs.UpTo.{map-upTo-suc}
 use Rattle.packing.specs.Rows.{rowsAt, repeated}
 use Rattle.packing.proofs.Copies.{repeated-rows, length-repeated}
 use Rattle.layers.proofs.Lengths.{length-flatten-rows}
-use Rattle.layers.proofs.Layouts.{length-rowsAt, rowsAt-lengths}
-use Rattle.rows.proofs.Lists.{take-drop-rest, write-part}
+use Rattle.packing.proofs.RowsAt.{length-rowsAt, rowsAt-lengths}
+use Rattle.lists.proofs.Writing.{take-drop-rest, write-part}
 use Rattle.rows.proofs.Written.{givenBack}
 use Rattle.planner.specs.Writing.{beginning, totalBelow, layerRows, rowsBelow}
 

@@ -14,7 +14,7 @@ use Rattle.number.specs.Answers.{numberWritten}
 use Rattle.number.specs.declared.NumberWritten.{NumberWritten}
 use Rattle.number.specs.declared.NumberWritten.the-variants.{Written, Refused}
 use Rattle.number.proofs.Writing.{Answers, writeNumber-accepted}
-use Rattle.rows.proofs.Lists.{take-drop-rest, append-rest}
+use Rattle.lists.proofs.Writing.{take-drop-rest, append-rest}
 use Rattle.rows.proofs.Written.{givenBack}
 use Rattle.planner.specs.Writing.{formsOf, beginning}
 
