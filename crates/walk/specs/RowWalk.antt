@@ -1,9 +1,11 @@
 -- Document 01, "Row walk and programs": the row walk. Assumes nothing.
 use Prim.Native.Nat.{ℕ, _+_, _*_, _-_}
+use mathlib.Core.Path.{_≡_}
 use mathlib.Core.Bool.{Bool, cond, _&&_}
 use mathlib.Core.List.{List, [], _∷_}
 use lib.ListN.{length, take, drop}
 use lib.Dec.{leb, ltb}
+use denote.Ref.{RefT, ptr, now}
 use Rattle.refusal.specs.Refusals.{Outcome, result, refusalOutcome}
 use Rattle.refusal.specs.Checked.{Checked, accepted, refused, mapAccepted}
 use Rattle.placement.specs.Placement.{Placement, checkPlacement}
@@ -26,6 +28,16 @@ hasRow bytes walk = ltb 0 (walk .left) && leb (walk .at + walk .r) (length bytes
 -- "A step hands out the next row's r bytes as that part of the caller's bytes"; "the end, an empty part"
 unfoldable pub stepRow : List ℕ → Cursor → List ℕ
 stepRow bytes walk = cond (hasRow bytes walk) (take (walk .r) (drop (walk .at) bytes)) []
+
+-- where that part begins in the caller's bytes; the empty part begins where they do
+unfoldable pub rowStart : List ℕ → Cursor → ℕ
+rowStart bytes walk = cond (hasRow bytes walk) (walk .at) 0
+
+-- "as that part of the caller's bytes": a slice that points into the caller's own memory, so many bytes on, and not a copy
+pub record RowPart (bytes : RefT (List ℕ)) (walk : Cursor) (row : RefT (List ℕ)) : Type 0 where
+  pub content : now row ≡ stepRow (now bytes) walk
+  pub block : ptr row .0 ≡ ptr bytes .0
+  pub offset : ptr row .1 ≡ ptr bytes .1 + rowStart (now bytes) walk
 
 -- "with the walk moved past them"; at the end "with the walk unmoved"
 unfoldable pub stepWalk : List ℕ → Cursor → Cursor
