@@ -1,5 +1,5 @@
 -- Document 01, "Row walk and programs": the row walk. Assumes nothing.
-use Prim.Native.Nat.{ℕ, _+_, _*_, _-_}
+use Prim.Native.Nat.{ℕ, zero, suc, _+_, _*_, _-_}
 use mathlib.Core.Path.{_≡_}
 use mathlib.Core.Bool.{Bool, cond, _&&_}
 use mathlib.Core.List.{List, [], _∷_}
@@ -43,6 +43,15 @@ pub record RowPart (bytes : RefT (List ℕ)) (walk : Cursor) (row : RefT (List �
 unfoldable pub stepWalk : List ℕ → Cursor → Cursor
 stepWalk bytes walk =
     cond (hasRow bytes walk) (record { at = walk .at + walk .r; r = walk .r; left = walk .left - 1 }) walk
+
+-- the rows that the first n steps hand out, and the walk after them
+unfoldable pub walkRows : (n : ℕ) → List ℕ → Cursor → List (List ℕ)
+walkRows zero bytes walk = []
+walkRows (suc n) bytes walk = stepRow bytes walk ∷ walkRows n bytes (stepWalk bytes walk)
+
+unfoldable pub walkAfter : (n : ℕ) → List ℕ → Cursor → Cursor
+walkAfter zero bytes walk = walk
+walkAfter (suc n) bytes walk = walkAfter n bytes (stepWalk bytes walk)
 
 abbrev pub walkOpened : Checked Cursor → WalkOpened
 walkOpened (accepted walk) = Opened walk
