@@ -1,3 +1,4 @@
 pub mod Steps
+pub mod Opening
 pub mod Rows
 pub mod Worked

@@ -4,15 +4,14 @@ use native.Mathlib.Omega.{arith}
 use native.Mathlib.Nat.{add-zero, zero-mul, sub-zero, mul-le-mul-right}
 use mathlib.Core.Path.{_≡_, refl, sym, _∙_, ap}
 use mathlib.Core.Bool.{true, false}
-use mathlib.Core.List.{List, [], _∷_, _++_, flatten, append-nil}
-use lib.ListN.{length, take, drop, length-append}
+use mathlib.Core.List.{List, [], _++_, flatten, append-nil}
+use lib.ListN.{length, drop, length-append}
 use lib.Seq.{drop-drop, drop-append-seam}
-use Rattle.lists.specs.Lists.{All}
 use Rattle.lists.proofs.Alls.{all-imp}
 use Rattle.refusal.specs.Checked.{accepted, mapAccepted}
 use Rattle.number.specs.Numbers.{Bytes}
 use Rattle.packing.specs.Rows.{Row, rowsAt}
-use Rattle.layers.specs.Layers.{Layer, allRows}
+use Rattle.layers.specs.Layers.{allRows}
 use Rattle.layers.proofs.Lengths.{length-flatten-rows, length-allRows}
 use Rattle.layers.proofs.Layouts.{rowsAt-flatten}
 use Rattle.placement.specs.Placement.{Placement, checkPlacement}

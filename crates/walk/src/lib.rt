@@ -1,6 +1,7 @@
 // The row walk: a placement's rows, one after the other.
 ghost use mathlib.Core.Path.{_≡_};
-ghost use Rattle.walk.specs.RowWalk.{hasRow, stepWalk, RowPart};
+ghost use Rattle.walk.specs.RowWalk.{hasRow, stepWalk, RowPart, openedOf, openedPlace};
+use placement::PlacementAnswer;
 use refusal::Refusal;
 
 // A walk's place in the caller's bytes: the next row's start, a row's length, and how many rows are left.
@@ -57,6 +58,38 @@ pub fn moved(bytes: &[u8], place: Cursor) -> Cursor
         }
     } else {
         place
+    }
+}
+
+// An accepted placement's first row, or the refusal.
+fn opened_of(answer: PlacementAnswer) -> WalkOpened
+    ensures { λ o. ⌜ o ≡ openedOf answer ⌝ }
+{
+    match answer {
+        PlacementAnswer::Accepted {
+            n: _,
+            r,
+            s: _,
+            k: _,
+            b,
+            figure: _,
+            at,
+        } => WalkOpened::Opened(Cursor { at, r, left: b }),
+        PlacementAnswer::Refused(e) => WalkOpened::Refused(e),
+    }
+}
+
+// The place of the walk that was opened, or the end beside a refusal.
+pub fn opened_place(answer: WalkOpened) -> Cursor
+    ensures { λ place. ⌜ place ≡ openedPlace answer ⌝ }
+{
+    match answer {
+        WalkOpened::Opened(place) => place,
+        WalkOpened::Refused(_) => Cursor {
+            at: 0,
+            r: 0,
+            left: 0,
+        },
     }
 }
 
