@@ -1,8 +1,8 @@
 -- A step's two cases: a row is handed out and the walk moved past it, or the end, with the walk unmoved. Assumes nothing.
 use Prim.Native.Nat.{ℕ, _+_, _-_, _≤_, _<_}
 use native.Mathlib.Omega.{arith}
-use mathlib.Core.Path.{_≡_, refl, sym, _∙_}
-use mathlib.Core.Bool.{Bool, true, false, and-eq-true-iff, and-false}
+use mathlib.Core.Path.{_≡_, refl, sym, _∙_, ap}
+use mathlib.Core.Bool.{Bool, true, false, _&&_, and-eq-true-iff, and-false}
 use mathlib.Core.List.{List, []}
 use lib.ListN.{length, take, drop}
 use native.Mathlib.Nat.{add-sub-cancel-left}
@@ -15,13 +15,19 @@ use Rattle.walk.specs.RowWalk.{hasRow, rowStart, stepRow, stepWalk, RowP
 module _ (bytes : List ℕ) (walk : Cursor) where
   pub hasRow-of-le : 0 < walk .left → walk .at + walk .r ≤ length bytes → hasRow bytes walk ≡ true
   hasRow-of-le more inside =
-      rw (lt-ltb 0 (walk .left) more, le-leb (walk .at + walk .r) (length bytes) inside)
+      and-eq-true-iff (ltb 0 (walk .left)) (leb (walk .at + walk .r) (length bytes)) .1 (
+        lt-ltb 0 (walk .left) more,
+        le-leb (walk .at + walk .r) (length bytes) inside,
+      )
 
   pub not-hasRow-of-none : walk .left ≡ 0 → hasRow bytes walk ≡ false
-  not-hasRow-of-none none = rw (le-ltb 0 (walk .left) (omega arith))
+  not-hasRow-of-none none =
+      ap (λ more. more && leb (walk .at + walk .r) (length bytes)) (le-ltb 0 (walk .left) (omega arith))
 
   pub not-hasRow-of-lt : length bytes < walk .at + walk .r → hasRow bytes walk ≡ false
-  not-hasRow-of-lt past = rw (lt-leb (walk .at + walk .r) (length bytes) past, and-false (ltb 0 (walk .left)))
+  not-hasRow-of-lt past =
+      ap (λ inside. ltb 0 (walk .left) && inside) (lt-leb (walk .at + walk .r) (length bytes) past)
+      ∙ and-false (ltb 0 (walk .left))
 
   -- the test without a sum: the row's r bytes are at most those from the place on
   pub room-hasRow : 0 < walk .left → walk .at ≤ length bytes → leb (walk .r) (length bytes - walk .at) ≡ hasRow bytes walk
