@@ -1,6 +1,6 @@
 // The row walk: a placement's rows, one after the other.
 ghost use mathlib.Core.Path.{_≡_};
-ghost use Rattle.walk.specs.RowWalk.{hasRow, stepWalk, RowPart, openedOf, openedPlace};
+ghost use Rattle.walk.specs.RowWalk.{openWalk, hasRow, stepWalk, RowPart, walkOpened, openedOf, openedPlace};
 use placement::PlacementAnswer;
 use refusal::Refusal;
 
@@ -79,6 +79,15 @@ fn opened_of(answer: PlacementAnswer) -> WalkOpened
     }
 }
 
+// The place of the first row of the placement that `bytes` are, or the checker's refusal.
+pub fn opened(bytes: &[u8]) -> WalkOpened
+    ensures { λ o. ⌜ o ≡ walkOpened (openWalk (now (bytes .entry))) ⌝ }
+{
+    let checked = placement::check_placement(bytes);
+    let answer = checked.answer;
+    opened_of(answer)
+}
+
 // The place of the walk that was opened, or the end beside a refusal.
 pub fn opened_place(answer: WalkOpened) -> Cursor
     ensures { λ place. ⌜ place ≡ openedPlace answer ⌝ }
@@ -103,6 +112,26 @@ pub struct Walk<'a> {
 pub struct Stepped<'a> {
     pub row: &'a [u8],
     pub walk: Walk<'a>,
+}
+
+// What opening a walk gives: the answer, and the walk, which is at its end beside a refusal.
+pub struct OpenedWalk<'a> {
+    pub answer: WalkOpened,
+    pub walk: Walk<'a>,
+}
+
+// The walk over the placement that `bytes` are, at its first row; or the checker's refusal, and a walk at its end.
+pub fn open_walk<'a>(bytes: &'a [u8]) -> OpenedWalk<'a>
+    ensures { λ o. ⌜ (o .answer ≡ walkOpened (openWalk (now (bytes .entry))))
+        × (o .walk .bytes ≡ bytes .entry)
+        × (o .walk .place ≡ openedPlace (walkOpened (openWalk (now (bytes .entry))))) ⌝ }
+{
+    let answer = opened(bytes);
+    let place = opened_place(answer);
+    OpenedWalk {
+        answer,
+        walk: Walk { bytes, place },
+    }
 }
 
 // The next row as that part of the caller's bytes, with the walk moved past it; at the end an empty part, and the walk unmoved.
