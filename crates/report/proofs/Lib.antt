@@ -1,1 +1,4 @@
 pub mod Worked
+pub mod Stores
+pub mod Decimal
+pub mod Lines

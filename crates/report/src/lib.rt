@@ -1,1 +1,89 @@
 // What the programs `check` and `plan` write.
+ghost use mathlib.Core.Path.{_≡_};
+ghost use mathlib.Core.List.{[], _∷_, _++_};
+ghost use Prim.Native.Nat.{_+_, _*_, _≤_};
+ghost use lib.ListN.{length};
+ghost use lib.Seq.{sets};
+ghost use Rattle.report.specs.Programs.{decimal, rest, acceptedWord, refusedLine};
+ghost use Rattle.report.specs.Replies.{Replied};
+use refusal::Refusal;
+
+// Puts `n` in decimal at `at`, and answers the place after it.
+fn put_decimal(out: &mut [u8], at: usize, n: usize) -> usize
+    requires { ⌜ at + length (decimal n) ≤ length (now out) ⌝ }
+    ensures { λ r. ⌜ (r ≡ at + length (decimal n))
+        × (now (out .exit) ≡ sets (now (out .entry)) at (decimal n)) ⌝ }
+{
+    if n < 10 {
+        out[at] = (48 + n) as u8;
+        return at + 1;
+    }
+    let last = put_decimal(out, at, n / 10);
+    out[last] = (48 + n % 10) as u8;
+    last + 1
+}
+
+// Puts `word` at the start of `out`.
+fn put_word(out: &mut [u8], word: &[u8])
+    requires { ⌜ length (now word) ≤ length (now out) ⌝ }
+    ensures { λ _. ⌜ now (out .exit) ≡ sets (now (out .entry)) 0 (now (word .entry)) ⌝ }
+{
+    let mut i: usize = 0;
+    while i < word.len() {
+        out[i] = word[i];
+        i += 1;
+    }
+}
+
+// Puts each number with a space before it at `at`, then a newline, and answers the place after it.
+fn put_rest(out: &mut [u8], at: usize, numbers: &[usize]) -> usize
+    requires { ⌜ at + 21 * length (now numbers) + 1 ≤ length (now out) ⌝ }
+    ensures { λ r. ⌜ (r ≡ at + length (rest (now (numbers .entry))))
+        × (now (out .exit) ≡ sets (now (out .entry)) at (rest (now (numbers .entry)))) ⌝ }
+{
+    let mut place = at;
+    let mut i: usize = 0;
+    while i < numbers.len() {
+        out[place] = b' ';
+        place = put_decimal(out, place + 1, numbers[i]);
+        i += 1;
+    }
+    out[place] = b'\n';
+    place + 1
+}
+
+// Puts the line of a word and numbers at the start of `out`, and answers its length.
+fn line(out: &mut [u8], word: &[u8], numbers: &[usize]) -> usize
+    requires { ⌜ length (now word) + 21 * length (now numbers) + 1 ≤ length (now out) ⌝ }
+    ensures { λ r. ⌜ Replied (now (word .entry) ++ rest (now (numbers .entry))) r (now (out .entry)) (now (out .exit)) ⌝ }
+{
+    put_word(out, word);
+    put_rest(out, word.len(), numbers)
+}
+
+// Puts the line of a refusal at the start of `out`, and answers its length.
+pub fn refused_line(out: &mut [u8], e: Refusal) -> usize
+    requires { ⌜ 200 ≤ length (now out) ⌝ }
+    ensures { λ r. ⌜ Replied (refusedLine e) r (now (out .entry)) (now (out .exit)) ⌝ }
+{
+    let numbers = [refusal::number(e), refusal::place(e)];
+    line(out, b"refused", &numbers)
+}
+
+// Puts the line of an accepted placement at the start of `out`, and answers its length.
+pub fn accepted_line(
+    out: &mut [u8],
+    figure: usize,
+    b: usize,
+    k: usize,
+    n: usize,
+    most: usize,
+    mean: usize,
+) -> usize
+    requires { ⌜ 200 ≤ length (now out) ⌝ }
+    ensures { λ r. ⌜ Replied (acceptedWord ++ rest (figure ∷ b ∷ k ∷ n ∷ most ∷ mean ∷ [])) r
+        (now (out .entry)) (now (out .exit)) ⌝ }
+{
+    let numbers = [figure, b, k, n, most, mean];
+    line(out, b"accepted", &numbers)
+}
