@@ -2,3 +2,4 @@ pub mod Worked
 pub mod Stores
 pub mod Decimal
 pub mod Lines
+pub mod Prefix
