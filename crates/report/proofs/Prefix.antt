@@ -1,22 +1,19 @@
 -- What the programs write is the same for the first 32,768 bytes of the input, which is what they read. Assumes nothing.
 use Prim.Native.Nat.{ℕ, _+_, _-_, _≤_, _<_}
 use native.Mathlib.Omega.{arith}
-use native.Mathlib.Nat.{zero-add}
-use mathlib.Core.Path.{_≡_, refl, sym, _∙_, ap}
+use mathlib.Core.Path.{_≡_, ap}
 use mathlib.Core.List.{List}
 use lib.ListN.{length, take, drop}
-use Rattle.refusal.specs.Checked.{Checked, accepted, refused, _>>=_, mapAccepted}
-use Rattle.refusal.proofs.Checked.{bind-congr, accepted-injective, refused-not-accepted}
+use Rattle.refusal.specs.Checked.{Checked, accepted, refused}
+use Rattle.refusal.proofs.Checked.{bind-congr, refused-not-accepted}
 use Rattle.number.specs.Numbers.{Reading, readNumber}
 use Rattle.number.proofs.Reading.{read-next, read-local}
 use Rattle.number.proofs.Lists.{slice-eq-take-drop}
 use Rattle.layers.proofs.Lists.{take-elim}
-use Rattle.pack.specs.Pack.{checkPack}
 use Rattle.pack.proofs.Prefix.{checkPack-take}
-use Rattle.placement.specs.Placement.{checkPlacement, placementBytes}
 use Rattle.placement.proofs.Prefix.{checkPlacement-buffer}
 use Rattle.planner.specs.Planning.{planned}
-use Rattle.report.specs.Programs.{acceptedLine, orRefusedLine, readOrder, checkLine, planInput, planReply}
+use Rattle.report.specs.Programs.{readOrder, checkLine, planInput, planReply}
 
 -- No byte after the first 32,768 changes what `check` writes.
 pub checkLine-buffer : (input : List ℕ) → checkLine (take 32_768 input) ≡ checkLine input

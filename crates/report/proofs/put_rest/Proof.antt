@@ -1,8 +1,8 @@
 -- `report::put_rest` meets its contract. The loop's invariant: the numbers that are left, stored from the present place
 -- on, make the whole of them. Assumes nothing.
-use Prim.Native.Nat.{_≤_, _-_}
+use Prim.Native.Nat.{_-_}
 use native.Mathlib.Omega.{arith}
-use mathlib.Core.Path.{_≡_, _∙_}
+use mathlib.Core.Path.{_∙_}
 use lib.ListN.{length, length-set}
 use Rattle.report.proofs.Lines.{Turn, turn-holds, turn-last, turn-last-inside, turn-room, turn-again}
 use borrow.Author.Needs.{needs}
