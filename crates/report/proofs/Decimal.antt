@@ -8,7 +8,7 @@ use lib.ListN.{length, set, length-append}
 use lib.Seq.{sets}
 use lib.Dec.{ltb}
 use borrow.Author.Tests.{ltb-true, ltb-false, lt-ltb, le-ltb}
-use Rattle.number.proofs.Lists.{cond-elim}
+use Rattle.lists.proofs.Tests.{cond-elim}
 use Rattle.report.specs.Programs.{digits, decimal}
 use Rattle.report.proofs.Stores.{sets-append}
 

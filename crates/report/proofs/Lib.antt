@@ -3,5 +3,4 @@ pub mod Stores
 pub mod Decimal
 pub mod Lines
 pub mod Prefix
-pub mod Occurrences
 pub mod Load

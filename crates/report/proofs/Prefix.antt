@@ -8,7 +8,7 @@ use Rattle.refusal.specs.Checked.{Checked, accepted, refused}
 use Rattle.refusal.proofs.Checked.{bind-congr, refused-not-accepted}
 use Rattle.number.specs.Numbers.{Reading, readNumber}
 use Rattle.number.proofs.Reading.{read-next, read-local}
-use Rattle.number.proofs.Lists.{slice-eq-take-drop}
+use Rattle.lists.proofs.Parts.{slice-eq-take-drop}
 use Rattle.layers.proofs.Lists.{take-elim}
 use Rattle.pack.proofs.Prefix.{checkPack-take}
 use Rattle.placement.proofs.Prefix.{checkPlacement-buffer}

@@ -1,7 +1,6 @@
 -- Document 01, "Row walk and programs": the load of the nodes. Assumes nothing.
 use Prim.Native.Nat.{ℕ, _+_, _*_, _/_}
 use mathlib.Core.List.{List, map}
-use lib.Dec.{eqb}
 use Rattle.lists.specs.Lists.{count, largest, upTo}
 use Rattle.packing.specs.Rows.{member}
 
@@ -16,7 +15,3 @@ most n rows = largest (map (load rows) (upTo n))
 -- "mean is b × r / n to the nearest whole, a half going up"
 unfoldable pub mean : (b r n : ℕ) → ℕ
 mean b r n = (2 * (b * r) + n) / (2 * n)
-
--- how often each number below n occurs in the list
-unfoldable pub occurrences : (n : ℕ) → List ℕ → List ℕ
-occurrences n nodes = map (λ v. count (eqb v) nodes) (upTo n)

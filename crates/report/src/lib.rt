@@ -1,13 +1,10 @@
 // What the programs `check` and `plan` write.
 ghost use mathlib.Core.Path.{_≡_};
 ghost use mathlib.Core.List.{[], _∷_, _++_};
-ghost use Prim.Native.Nat.{_+_, _*_, _≤_, max};
+ghost use Prim.Native.Nat.{_+_, _*_, _≤_};
 ghost use lib.ListN.{length};
 ghost use lib.Seq.{sets};
-ghost use lib.Dec.{T};
-ghost use Rattle.lists.specs.Lists.{All, largest};
-ghost use Rattle.packing.specs.Rows.{inOrder, rowsAt};
-ghost use Rattle.report.specs.Load.{occurrences, most, mean};
+ghost use Rattle.report.specs.Load.{mean};
 ghost use Rattle.report.specs.Programs.{decimal, rest, acceptedWord, refusedLine};
 ghost use Rattle.report.specs.Replies.{Replied};
 use refusal::Refusal;
@@ -90,52 +87,6 @@ pub fn accepted_line(
 {
     let numbers = [figure, b, k, n, most, mean];
     line(out, b"accepted", &numbers)
-}
-
-// The larger of two numbers.
-fn larger(a: usize, b: usize) -> usize
-    ensures { λ r. ⌜ r ≡ max a b ⌝ }
-{
-    if a < b { b } else { a }
-}
-
-// The largest of the numbers, 0 where there is none.
-fn largest_of(numbers: &[usize]) -> usize
-    ensures { λ r. ⌜ r ≡ largest (now (numbers .entry)) ⌝ }
-{
-    let mut most: usize = 0;
-    let mut i: usize = 0;
-    while i < numbers.len() {
-        most = larger(most, numbers[i]);
-        i += 1;
-    }
-    most
-}
-
-// How often each byte occurs.
-fn occurrences_of(nodes: &[u8]) -> [usize; 256]
-    ensures { λ r. ⌜ r ≡ occurrences 256 (now (nodes .entry)) ⌝ }
-{
-    let mut counts = [0usize; 256];
-    let mut i: usize = 0;
-    while i < nodes.len() {
-        let node = nodes[i] as usize;
-        counts[node] += 1;
-        i += 1;
-    }
-    counts
-}
-
-// The largest number of the `c` rows of `r` bytes that hold one node, in one pass over them.
-pub fn most_load(rows: &[u8], c: usize, r: usize, n: usize) -> usize
-    requires { ⌜ n ≤ 255 ⌝ }
-    requires { ⌜ c * r ≤ length (now rows) ⌝ }
-    requires { ⌜ All (λ row. T (inOrder n row)) (rowsAt r c (now rows)) ⌝ }
-    ensures { λ m. ⌜ m ≡ most n (rowsAt r c (now (rows .entry))) ⌝ }
-{
-    let end = c * r;
-    let counts = occurrences_of(&rows[0..end]);
-    largest_of(&counts[0..n])
 }
 
 // b × r / n to the nearest whole, a half going up.
