@@ -4,3 +4,5 @@ pub mod Decimal
 pub mod Lines
 pub mod Prefix
 pub mod Load
+pub mod Replies
+pub mod Plans
