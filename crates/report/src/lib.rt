@@ -67,7 +67,9 @@ pub fn refused_line(out: &mut [u8], e: Refusal) -> usize
     requires { ⌜ 200 ≤ length (now out) ⌝ }
     ensures { λ r. ⌜ Replied (refusedLine e) r (now (out .entry)) (now (out .exit)) ⌝ }
 {
-    let numbers = [refusal::number(e), refusal::place(e)];
+    let number = refusal::number(e);
+    let place = refusal::place(e);
+    let numbers = [number, place];
     line(out, b"refused", &numbers)
 }
 
