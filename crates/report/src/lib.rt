@@ -5,8 +5,11 @@ ghost use Prim.Native.Nat.{_+_, _*_, _≤_};
 ghost use lib.ListN.{length};
 ghost use lib.Seq.{sets};
 ghost use Rattle.report.specs.Load.{mean};
-ghost use Rattle.report.specs.Programs.{decimal, rest, acceptedWord, refusedLine};
-ghost use Rattle.report.specs.Replies.{Replied};
+ghost use Rattle.report.specs.Programs.{decimal, rest, acceptedWord, refusedLine, checkLine, planReply};
+ghost use Rattle.report.specs.Replies.{Replied, plannedReply};
+use number::NumberRead;
+use placement::PlacementAnswer;
+use planner::PlanAnswer;
 use refusal::Refusal;
 
 // Puts `n` in decimal at `at`, and answers the place after it.
@@ -97,4 +100,66 @@ pub fn mean_load(b: usize, r: usize, n: usize) -> usize
     ensures { λ m. ⌜ m ≡ mean b r n ⌝ }
 {
     (2 * (b * r) + n) / (2 * n)
+}
+
+// Puts the line that `check` prints for the input at the start of `out`, and answers its length.
+pub fn check_reply(input: &[u8], out: &mut [u8]) -> usize
+    requires { ⌜ 200 ≤ length (now out) ⌝ }
+    ensures { λ r. ⌜ Replied (checkLine (now (input .entry))) r (now (out .entry)) (now (out .exit)) ⌝ }
+{
+    let check = placement::check_placement(input);
+    let answer = check.answer;
+    match answer {
+        PlacementAnswer::Refused(e) => refused_line(out, e),
+        PlacementAnswer::Accepted {
+            n,
+            r,
+            s: _,
+            k,
+            b,
+            figure,
+            at,
+        } => {
+            let most = rows::most_load(&input[at..], b, r, n);
+            let mean = mean_load(b, r, n);
+            accepted_line(out, figure, b, k, n, most, mean)
+        }
+    }
+}
+
+// Puts the placement that is planned, or the line of the refusal, at the start of `out`, and answers its length.
+fn planned_reply(
+    pack: &[u8],
+    s: usize,
+    k: usize,
+    b: usize,
+    work: &mut [u16],
+    out: &mut [u8],
+) -> usize
+    requires { ⌜ (20_485 ≤ length (now work)) × (20_544 ≤ length (now out)) ⌝ }
+    ensures { λ r. ⌜ Replied (plannedReply (now (pack .entry)) s k b) r (now (out .entry)) (now (out .exit)) ⌝ }
+{
+    let result = planner::plan(pack, s, k, b, work, out);
+    let answer = result.answer;
+    match answer {
+        PlanAnswer::Planned { length, figure: _ } => length,
+        PlanAnswer::Refused(e) => refused_line(out, e),
+    }
+}
+
+// Puts what `plan` writes for the input at the start of `out`, and answers its length.
+pub fn plan_reply(input: &[u8], work: &mut [u16], out: &mut [u8]) -> usize
+    requires { ⌜ (20_485 ≤ length (now work)) × (20_544 ≤ length (now out)) ⌝ }
+    ensures { λ r. ⌜ Replied (planReply (now (input .entry))) r (now (out .entry)) (now (out .exit)) ⌝ }
+{
+    let NumberRead::Value(s, k_at) = number::read_number(input, 0) else {
+        return refused_line(out, Refusal::BadOrder(0));
+    };
+    let NumberRead::Value(k, b_at) = number::read_number(input, k_at) else {
+        return refused_line(out, Refusal::BadOrder(1));
+    };
+    let NumberRead::Value(b, at) = number::read_number(input, b_at) else {
+        return refused_line(out, Refusal::BadOrder(2));
+    };
+    planned_reply(&input[at..], s, k, b, work, out)
 }
