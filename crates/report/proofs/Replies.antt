@@ -12,10 +12,10 @@ use Rattle.refusal.specs.declared.Refusal.{Refusal}
 use Rattle.refusal.specs.Checked.{Checked, accepted, refused}
 use Rattle.number.specs.Numbers.{Bytes}
 use Rattle.packing.specs.Rows.{Row, inOrder, rowsAt}
-use Rattle.rows.proofs.Lists.{take-drop-rest}
+use Rattle.lists.proofs.Writing.{take-drop-rest}
 use Rattle.layers.specs.Layers.{allRows}
 use Rattle.layers.proofs.Lengths.{length-flatten-rows, length-allRows}
-use Rattle.layers.proofs.Layouts.{rowsAt-flatten}
+use Rattle.packing.proofs.RowsAt.{rowsAt-flatten}
 use Rattle.placement.specs.Placement.{Placement, GoodPlacement, checkPlacement}
 use Rattle.placement.specs.Answers.{placementChecked}
 use Rattle.placement.specs.declared.PlacementAnswer.the-variants.{Accepted, Refused}

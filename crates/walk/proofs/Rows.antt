@@ -13,7 +13,7 @@ use Rattle.number.specs.Numbers.{Bytes}
 use Rattle.packing.specs.Rows.{Row, rowsAt}
 use Rattle.layers.specs.Layers.{allRows}
 use Rattle.layers.proofs.Lengths.{length-flatten-rows, length-allRows}
-use Rattle.layers.proofs.Layouts.{rowsAt-flatten}
+use Rattle.packing.proofs.RowsAt.{rowsAt-flatten}
 use Rattle.placement.specs.Placement.{Placement, checkPlacement}
 use Rattle.placement.proofs.Accepted.{placement-accepted-iff}
 use Rattle.walk.specs.declared.Cursor.{Cursor}

@@ -6,7 +6,7 @@ use Rattle.refusal.specs.Checked.{accepted}
 use Rattle.number.specs.Numbers.{readNumber}
 use Rattle.number.proofs.Within.{numberRead-value, numberRead-refused}
 use Rattle.number.proofs.Reading.{read-next}
-use Rattle.rows.proofs.Lists.{take-drop-rest}
+use Rattle.lists.proofs.Writing.{take-drop-rest}
 use Rattle.report.proofs.Plans.{reply-s-refused, reply-k-refused, reply-b-refused, reply-planned}
 use Rattle.report.proofs.plan_reply.Statement.{statement}
 use Rattle.report.proofs.plan_reply.Tie as tie
