@@ -1,8 +1,12 @@
 """Tests of the independent implementation: document 01's examples, and brute force on small estates."""
 import random
+import sys
 import unittest
+from pathlib import Path
 
-from document01 import (Refused, check_pack, check_placement, check_reply, comb, figure, named_split,
+sys.path.insert(0, str(Path(__file__).resolve().parent))
+
+from document01 import (Refused, check_pack, check_placement, check_reply, comb, figure, first_crowded, named_split,
                         named_split_by_force, number_bytes, plan, plan_reply, read_number, together, walk, worst_case)
 
 ROWS = "012 345 012 034 056 135 146 236 245".split()
@@ -103,7 +107,6 @@ class BruteForce(unittest.TestCase):
 
 
 def refusal_of_layer(rows, x, mu):
-    from document01 import first_crowded
     return first_crowded(rows, x, mu) is not None
 
 
