@@ -32,7 +32,7 @@ use packing::RowFound;
 use refusal::Refusal;
 
 // What reading one layer's two numbers gives: its bound, its size and the next place, or the refusal.
-pub enum LayerRead {
+enum LayerRead {
     Numbers(usize, usize, usize),
     Refused(Refusal),
 }

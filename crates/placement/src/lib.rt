@@ -46,14 +46,14 @@ pub struct PlacementCheck {
 }
 
 // A placement's numbers before its layers', and the place where the figure starts.
-pub struct Head {
-    pub n: usize,
-    pub r: usize,
-    pub s: usize,
-    pub k: usize,
-    pub b: usize,
-    pub figure: usize,
-    pub place: usize,
+struct Head {
+    n: usize,
+    r: usize,
+    s: usize,
+    k: usize,
+    b: usize,
+    figure: usize,
+    place: usize,
 }
 
 // The loss of a layer of c rows, with `above` for C(k,x+1) and `below` for C(s,x+1).
@@ -181,7 +181,7 @@ fn after_k(bytes: &[u8], n: usize, r: usize, s: usize, k: usize, at: usize) -> P
 
 // The check of a placement from k on, which starts at `at`.
 fn after_s(bytes: &[u8], n: usize, r: usize, s: usize, at: usize) -> PlacementCheck
-    requires { ⌜ (1 ≤ s) × (s ≤ r) × (r ≤ 5) × (1 ≤ n) × (n ≤ 255) ⌝ }
+    requires { ⌜ (1 ≤ s) × (s ≤ r) × (r ≤ 5) × (2 ≤ n) × (n ≤ 255) ⌝ }
     ensures { λ check. ⌜ check
         ≡ placementChecked (now (bytes .entry)) (afterS (now (bytes .entry)) n r s at) ⌝ }
 {
@@ -194,7 +194,7 @@ fn after_s(bytes: &[u8], n: usize, r: usize, s: usize, at: usize) -> PlacementCh
 
 // The check of a placement from s on, which starts at `at`.
 fn after_r(bytes: &[u8], n: usize, r: usize, at: usize) -> PlacementCheck
-    requires { ⌜ (r ≤ 5) × (1 ≤ n) × (n ≤ 255) ⌝ }
+    requires { ⌜ (r ≤ 5) × (2 ≤ n) × (n ≤ 255) ⌝ }
     ensures { λ check. ⌜ check ≡ placementChecked (now (bytes .entry)) (afterR (now (bytes .entry)) n r at) ⌝ }
 {
     let read = number::read_within(bytes, at, 1, r);
@@ -206,7 +206,7 @@ fn after_r(bytes: &[u8], n: usize, r: usize, at: usize) -> PlacementCheck
 
 // The check of a placement from r on, which starts at `at`.
 fn after_n(bytes: &[u8], n: usize, at: usize) -> PlacementCheck
-    requires { ⌜ (1 ≤ n) × (n ≤ 255) ⌝ }
+    requires { ⌜ (2 ≤ n) × (n ≤ 255) ⌝ }
     ensures { λ check. ⌜ check ≡ placementChecked (now (bytes .entry)) (afterN (now (bytes .entry)) n at) ⌝ }
 {
     let read = number::read_within(bytes, at, 2, layers::smaller(5, n));
