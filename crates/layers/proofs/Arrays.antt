@@ -54,7 +54,8 @@ module _ (bound size : List ℕ) where
 
   pub drop-arrayHeads-all : (n : ℕ) → drop n (arrayHeads n bound size) ≡ []
   drop-arrayHeads-all n =
-      ap (λ k. drop k (arrayHeads n bound size)) (sym (length-map-upTo headAt n)) ∙ drop-length (arrayHeads n bound size)
+      ap (λ k. drop k (arrayHeads n bound size)) (sym (length-map-upTo headAt n)) ∙ drop-length
+      (arrayHeads n bound size)
 
 getD-five : (l : List ℕ) (i : ℕ) → i < length l → i < 5 → getD (five l) i 0 ≡ getD l i 0
 getD-five l i h k = getD-take 5 (l ++ replicate 5 0) i 0 k ∙ List·getD-append l (replicate 5 0) 0 i h
@@ -74,13 +75,16 @@ arrayHeads-five heads n e h =
     sizes′ : List ℕ
     sizes′ = five (map (λ head. head .size) heads)
 
-    same : (i : ℕ) → i < length (arrayHeads n bounds sizes′) → getD (arrayHeads n bounds sizes′) i none ≡ getD heads i none
+    same : (i : ℕ) → i < length (arrayHeads n bounds sizes′) → getD (arrayHeads n bounds sizes′) i none
+        ≡ getD heads i none
     same i lt =
         let less : i < n = omega (arith, length-map-upTo (headAt bounds sizes′) n) in
         let b : getD bounds i 0 ≡ getD heads i none .bound =
-        getD-five (map (λ head. head .bound) heads) i (rw (length-map heads (λ head. head .bound)) (omega arith)) (omega arith)
+        getD-five (map (λ head. head .bound) heads) i (rw (length-map heads (λ head. head .bound)) (omega arith))
+        (omega arith)
         ∙ List·getD-map (λ head. head .bound) heads i none in
         let z : getD sizes′ i 0 ≡ getD heads i none .size =
-        getD-five (map (λ head. head .size) heads) i (rw (length-map heads (λ head. head .size)) (omega arith)) (omega arith)
+        getD-five (map (λ head. head .size) heads) i (rw (length-map heads (λ head. head .size)) (omega arith))
+        (omega arith)
         ∙ List·getD-map (λ head. head .size) heads i none in
         getD-map-upTo (headAt bounds sizes′) n i none less ∙ (λ j. record { bound = b j; size = z j })

@@ -1,11 +1,11 @@
 -- The packing test layer by layer, each on the part of the bytes that begins at its first row: what each turn of the loop
 -- keeps, and what it answers. Assumes nothing.
-use Prim.Native.Nat.{ℕ, zero, suc, _+_, _*_, _-_, _≤_, _<_}
+use Prim.Native.Nat.{ℕ, suc, _+_, _*_, _-_, _≤_, _<_}
 use native.Mathlib.Omega.{arith}
 use native.Mathlib.Numerals.{add-one}
 use native.Mathlib.Nat.{mul-le-mul-right, le-refl, le-of-lt}
 use mathlib.Core.Path.{_≡_, refl, sym, _∙_, ap}
-use mathlib.Core.List.{List, [], _∷_, _++_, flatten}
+use mathlib.Core.List.{List, [], _∷_, flatten}
 use mathlib.Core.Option.{Option, none, some}
 use lib.ListN.{length, take, drop, getD, length-drop}
 use lib.Seq.{drop-drop, take-all}
@@ -23,7 +23,6 @@ use Rattle.packing.specs.declared.Record.{Record}
 use Rattle.packing.proofs.RowsAt.{length-rowsAt}
 use Rattle.layers.specs.Layers.{Layer, LayerHead, sizes, allRows, layersAt, firstOf, firstCrowdedOf, refuseRow}
 use Rattle.layers.specs.Answers.{arrayHeads, rowsAnswer}
-use Rattle.layers.specs.declared.RowsAnswer.{RowsAnswer}
 use Rattle.layers.specs.declared.RowsAnswer.the-variants.{Good, Refused}
 use Rattle.layers.proofs.Arrays.{headAt, drop-arrayHeads, drop-arrayHeads-all}
 
@@ -41,7 +40,8 @@ rowFound-nothing (some i) e = cc
 rowFound-nothing none e = refl
 
 -- where a layer has no such row, one found after it is counted on
-refuse-later : (r start c : ℕ) (o : Option ℕ) → refuseRow Crowded r (start + c * r) o ≡ refuseRow Crowded r start (firstOf none c o)
+refuse-later : (r start c : ℕ) (o : Option ℕ) → refuseRow Crowded r (start + c * r) o
+    ≡ refuseRow Crowded r start (firstOf none c o)
 refuse-later r start c none = refl
 refuse-later r start c (some i) =
     let e : start + c * r + i * r ≡ start + (c + i) * r = omega arith in
@@ -56,7 +56,8 @@ Ordered rows = All (λ row. T (ascending 0 row)) rows
 
 -- the answer for all layers
 abbrev answerOf : (r layers : ℕ) (bound size s : List ℕ) (at : ℕ) → Checked Unit
-answerOf r layers bound size s at = refuseRow Crowded r at (firstCrowdedOf 0 (layersAt r (arrayHeads layers bound size) (drop at s)))
+answerOf r layers bound size s at =
+    refuseRow Crowded r at (firstCrowdedOf 0 (layersAt r (arrayHeads layers bound size) (drop at s)))
 
 -- What each turn keeps: the first crowded row of the layers from x on is that of all layers.
 pub record Turn (r layers : ℕ) (bound size s : List ℕ) (at start x : ℕ) : Type 0 where
@@ -64,7 +65,8 @@ pub record Turn (r layers : ℕ) (bound size s : List ℕ) (at start x : ℕ) : 
   pub within : start + sizes (drop x (arrayHeads layers bound size)) * r ≤ length s
   pub small : sizes (drop x (arrayHeads layers bound size)) ≤ 4_096
   pub ordered : Ordered (allRows (layersFrom r layers bound size s start x))
-  pub same : refuseRow Crowded r start (firstCrowdedOf x (layersFrom r layers bound size s start x)) ≡ answerOf r layers bound size s at
+  pub same : refuseRow Crowded r start (firstCrowdedOf x (layersFrom r layers bound size s start x))
+      ≡ answerOf r layers bound size s at
 
 pub turn-holds : (r layers : ℕ) (bound size s : List ℕ) (at : ℕ) → sizes (arrayHeads layers bound size) ≤ 4_096
     → at + sizes (arrayHeads layers bound size) * r ≤ length s
@@ -113,7 +115,8 @@ module _ (r layers : ℕ) (bound size s : List ℕ) (at start x : ℕ) (turn : T
     unfolding c rows after flatten
     turn-ordered = all-append-left _ rows (allRows after) (rw split at (turn .ordered))
 
-    whole : refuseRow Crowded r start (firstOf (firstCrowded x (getD bound x 0) rows) c (firstCrowdedOf (suc x) after)) ≡ answerOf r layers bound size s at
+    whole : refuseRow Crowded r start (firstOf (firstCrowded x (getD bound x 0) rows) c (firstCrowdedOf (suc x) after))
+        ≡ answerOf r layers bound size s at
     unfolding c rows after firstCrowdedOf
     whole = rw (split, length-rowsAt r (getD size x 0) (drop start s)) at (turn .same)
 

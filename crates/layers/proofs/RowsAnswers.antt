@@ -1,19 +1,19 @@
 -- The answers of checking rows: 1 or 5 for their length, then 6 over all rows, then 7. Assumes nothing.
 use Prim.Native.Nat.{ℕ, _+_, _*_, _≤_, _<_}
 use native.Mathlib.Nat.{mul-le-mul, mul-le-mul-right, le-of-lt, le-refl}
-use mathlib.Core.Path.{_≡_, refl, sym, _∙_, ap}
+use mathlib.Core.Path.{_≡_, refl, sym, _∙_}
 use mathlib.Core.List.{List, [], _∷_, flatten}
 use mathlib.Core.Option.{Option, none, some}
 use mathlib.Core.Bool.{not}
-use lib.ListN.{length, take, drop}
-use lib.Dec.{T, leb}
+use lib.ListN.{length, drop}
+use lib.Dec.{T}
 use borrow.Author.Tests.{le-leb, lt-leb}
-use Rattle.lists.specs.Lists.{All, every, total}
+use Rattle.lists.specs.Lists.{total}
 use Rattle.lists.proofs.Alls.{all-imp}
 use Rattle.lists.proofs.Tests.{and-left}
 use Rattle.lists.proofs.Finds.{FoundAt, some-firstWhere}
 use Rattle.refusal.specs.declared.Refusal.the-variants.{Ended, Trailing, BadRow, Crowded}
-use Rattle.refusal.specs.Checked.{Checked, accepted, refused, _>>=_}
+use Rattle.refusal.specs.Checked.{accepted, _>>=_}
 use Rattle.packing.specs.Rows.{ascending, inOrder, rowsAt, firstBad}
 use Rattle.packing.specs.Answers.{rowFound}
 use Rattle.packing.specs.declared.RowFound.{RowFound}
@@ -24,7 +24,7 @@ use Rattle.packing.proofs.RowsAt.{length-rowsAt, rowsAt-add}
 use Rattle.layers.specs.Layers.{Layer, LayerHead, sizes, allRows, layersAt, firstCrowdedOf, refuseRow, checkRows}
 use Rattle.layers.specs.Answers.{rowsAnswer}
 use Rattle.layers.specs.declared.RowsAnswer.{RowsAnswer}
-use Rattle.layers.specs.declared.RowsAnswer.the-variants.{Good, Refused}
+use Rattle.layers.specs.declared.RowsAnswer.the-variants.{Refused}
 use Rattle.layers.proofs.CrowdLoop.{Ordered, rowFound-at, rowFound-nothing}
 
 -- the rows' bytes are few
@@ -32,7 +32,8 @@ pub rows-small : {rows r : ℕ} → rows ≤ 4_096 → r ≤ 5 → rows * r ≤ 
 rows-small h k = mul-le-mul h k
 
 -- the rows of all layers are the rows that follow one another in the bytes
-allRows-layersAt : (r : ℕ) (heads : List LayerHead) (s : List ℕ) → allRows (layersAt r heads s) ≡ rowsAt r (sizes heads) s
+allRows-layersAt : (r : ℕ) (heads : List LayerHead) (s : List ℕ) → allRows (layersAt r heads s)
+    ≡ rowsAt r (sizes heads) s
 unfolding layersAt rowsAt flatten total
 allRows-layersAt r [] s = refl
 allRows-layersAt r (head ∷ heads) s =
@@ -65,7 +66,8 @@ module _ (n r : ℕ) (heads : List LayerHead) (s : List ℕ) (at rows : ℕ) (co
     -- the length is right: what follows
     right : checkRows n r heads s at
         ≡ (refuseRow BadRow r at (firstBad n (allRows (layersAt r heads (drop at s)))) >>= λ u.
-        refuseRow Crowded r at (firstCrowdedOf 0 (layersAt r heads (drop at s))) >>= λ v. accepted (layersAt r heads (drop at s)))
+        refuseRow Crowded r at (firstCrowdedOf 0 (layersAt r heads (drop at s))) >>= λ v. accepted
+        (layersAt r heads (drop at s)))
     unfolding checkRows
     right =
         let e : at + sizes heads * r ≡ length s = rw (← count) ends in
@@ -98,4 +100,6 @@ module _ (n r : ℕ) (heads : List LayerHead) (s : List ℕ) (at rows : ℕ) (co
       pub rows-left : {answer : RowsAnswer}
           → answer ≡ rowsAnswer (refuseRow Crowded r at (firstCrowdedOf 0 (layersAt r heads (drop at s))))
           → answer ≡ rowsAnswer (checkRows n r heads s at)
-      rows-left a = a ∙ rw (right, none-bad) (refuseRow-left r at (firstCrowdedOf 0 (layersAt r heads (drop at s))) (layersAt r heads (drop at s)))
+      rows-left a =
+          a ∙ rw (right, none-bad)
+          (refuseRow-left r at (firstCrowdedOf 0 (layersAt r heads (drop at s))) (layersAt r heads (drop at s)))

@@ -1,13 +1,13 @@
 -- What the code's answers at each stage of a check say: the limits of a number that was read, the layers' heads as the
 -- arrays have them, and the layers of good rows. Assumes nothing.
-use Prim.Native.Nat.{ℕ, _+_, _-_, _*_, _≤_}
+use Prim.Native.Nat.{ℕ, _-_, _*_, _≤_}
 use native.Mathlib.Omega.{arith}
 use mathlib.Core.Path.{_≡_, refl, sym, _∙_, ap}
 use mathlib.Core.List.{List, [], _∷_, map}
 use lib.ListN.{length}
 use Rattle.refusal.specs.declared.Refusal.{Refusal}
 use Rattle.refusal.specs.Checked.{Checked, accepted, refused, _>>=_}
-use Rattle.number.specs.Numbers.{Reading, readNumber, readWithin}
+use Rattle.number.specs.Numbers.{Reading, readWithin}
 use Rattle.number.specs.Answers.{numberRead}
 use Rattle.number.specs.declared.NumberRead.{NumberRead}
 use Rattle.number.specs.declared.NumberRead.the-variants.{Value, Refused as NotRead}
@@ -19,8 +19,8 @@ use Rattle.layers.specs.declared.HeadsAnswer.the-variants.{Next, Refused
 use Rattle.layers.specs.declared.LayersRead.{LayersRead}
 use Rattle.layers.specs.declared.RowsAnswer.{RowsAnswer}
 use Rattle.layers.specs.declared.RowsAnswer.the-variants.{Good, Refused as RowsRefused}
-use Rattle.layers.proofs.NumbersRead.{Reads, reads-le-length}
-use Rattle.layers.proofs.Heads.{HeadsWithin, fit-le, read-of-readKind, reads-of-readLayers}
+use Rattle.layers.proofs.NumbersRead.{reads-le-length}
+use Rattle.layers.proofs.Heads.{HeadsWithin, read-of-readKind, reads-of-readLayers}
 use Rattle.layers.proofs.Lengths.{length-allRows}
 use Rattle.layers.proofs.RowsChecked.{RowsTaken, taken-of-checkRows, taken-heads}
 use Rattle.layers.proofs.Readings.{bind-not-read, bind-read}
@@ -29,27 +29,32 @@ use Rattle.layers.proofs.Arrays.{arrayHeads-five}
 -- An answer over a number that was not read, and over one that was: `answer` gives the code's answer for what is checked.
 module _ {A B : Type 0} (answer : Checked A → B) (m : Checked Reading) (f : Reading → Checked A) (read : NumberRead)
     (is : read ≡ numberRead m) where
-  pub stage-refused : {why e : Refusal} → read ≡ NotRead why → e ≡ refusalOf read → answer (refused e) ≡ answer (m >>= f)
+  pub stage-refused : {why e : Refusal} → read ≡ NotRead why → e ≡ refusalOf read → answer (refused e)
+      ≡ answer (m >>= f)
   stage-refused w k = ap answer (ap refused k ∙ sym (bind-not-read m f read is w))
 
-  pub stage-read : {v next : ℕ} → read ≡ Value v next → answer (f (record { value = v; next = next })) ≡ answer (m >>= f)
+  pub stage-read : {v next : ℕ} → read ≡ Value v next → answer (f (record { value = v; next = next }))
+      ≡ answer (m >>= f)
   stage-read v = ap answer (sym (bind-read m f read is v))
 
 -- a number that was read is within its limits, and ends within the bytes
-pub read-limits : (lo hi : ℕ) (s : List ℕ) (at : ℕ) (read : NumberRead) {v next : ℕ} → read ≡ numberRead (readWithin lo hi s at)
+pub read-limits : (lo hi : ℕ) (s : List ℕ) (at : ℕ) (read : NumberRead) {v next : ℕ} → read
+    ≡ numberRead (readWithin lo hi s at)
     → read ≡ Value v next → (lo ≤ v) × (v ≤ hi) × (next ≤ length s)
 read-limits lo hi s at read is e =
     let accept = numberRead-value (readWithin lo hi s at) (sym e ∙ is) in
     let (number, low, high) = read-of-readWithin lo hi s at accept in
     (low, high, read-next s at number .2)
 
-pub kind-end : (kind : ℕ) (s : List ℕ) (read : NumberRead) {v next : ℕ} → read ≡ numberRead (readKind kind s) → read ≡ Value v next
+pub kind-end : (kind : ℕ) (s : List ℕ) (read : NumberRead) {v next : ℕ} → read ≡ numberRead (readKind kind s) → read
+    ≡ Value v next
     → next ≤ length s
 kind-end kind s read is e =
     read-next s 0 (read-of-readKind kind s (numberRead-value (readKind kind s) (sym e ∙ is))) .2
 
 -- The layers' numbers were read: their heads, as the arrays have them, and the next place.
-pub record LayersTaken (limits : LayerLimits) (layers room : ℕ) (s : List ℕ) (at : ℕ) (bound size : List ℕ) (first : ℕ) : Type 0 where
+pub record LayersTaken (limits : LayerLimits) (layers room : ℕ) (s : List ℕ) (at : ℕ) (bound size : List ℕ)
+    (first : ℕ) : Type 0 where
   pub heads : List LayerHead
   pub reads : readLayers limits layers room s at ≡ accepted (record { heads = heads; next = first })
   pub arrays : arrayHeads layers bound size ≡ heads
@@ -117,7 +122,8 @@ map-sizes : (layers : List Layer) → map size layers ≡ map (λ head. head .si
 map-sizes [] = refl
 map-sizes (layer ∷ layers) = ap (λ rest. size layer ∷ rest) (map-sizes layers)
 
-module _ (n r : ℕ) (heads : List LayerHead) (s : List ℕ) (at : ℕ) {layers : List Layer} (e : checkRows n r heads s at ≡ accepted layers) where
+module _ (n r : ℕ) (heads : List LayerHead) (s : List ℕ) (at : ℕ) {layers : List Layer}
+    (e : checkRows n r heads s at ≡ accepted layers) where
   taken : RowsTaken n r heads s at layers
   taken = taken-of-checkRows n r heads s at e
 

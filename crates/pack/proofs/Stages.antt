@@ -1,14 +1,13 @@
 -- The answers of checking a pack from its layers' numbers on, over what reading these numbers and checking the rows
 -- answered. Assumes nothing.
-use Prim.Native.Nat.{ℕ, _-_, _*_, _≤_}
-use native.Mathlib.Omega.{arith}
+use Prim.Native.Nat.{ℕ, _≤_}
 use native.Mathlib.Nat.{le-refl}
-use mathlib.Core.Path.{_≡_, refl, sym, _∙_, ap}
+use mathlib.Core.Path.{_≡_, refl}
 use mathlib.Core.Bool.{false}
-use mathlib.Core.List.{List, map}
+use mathlib.Core.List.{List}
 use lib.ListN.{length}
 use Rattle.refusal.specs.declared.Refusal.{Refusal}
-use Rattle.refusal.specs.Checked.{Checked, accepted, refused, _>>=_}
+use Rattle.refusal.specs.Checked.{_>>=_}
 use Rattle.number.specs.Numbers.{Reading}
 use Rattle.layers.specs.Layers.{Layer, LayerHeads, sizes, readKind, readLayers, checkRows}
 use Rattle.layers.specs.Answers.{layersRead, arrayHeads, rowsAnswer}
@@ -29,7 +28,8 @@ pub stages : (s : List ℕ) → checkPack s ≡ (readKind 1 s >>= λ kind. after
 unfolding checkPack afterKind afterN afterR
 stages s = refl
 
-module _ (s : List ℕ) (n r at : ℕ) (read : LayersRead) (is : read ≡ layersRead (readLayers packLayerLimits r 4_096 s at)) where
+module _ (s : List ℕ) (n r at : ℕ) (read : LayersRead)
+    (is : read ≡ layersRead (readLayers packLayerLimits r 4_096 s at)) where
   pub heads-refused : {e : Refusal} → read .answer ≡ HeadsRefused e → packRefused e ≡ packChecked s (afterR s n r at)
   unfolding afterR
   heads-refused k = rw (layers-refused packLayerLimits r 4_096 s at read is k)
@@ -44,7 +44,8 @@ module _ (s : List ℕ) (n r at : ℕ) (read : LayersRead) (is : read ≡ layers
         let t = taken in
         ((le-refl r, few, t .inside), rw (t .arrays) (fit-le false r 4_096 (sizes (t .heads)) (t .within .fit)))
 
-    module _ (rows : RowsAnswer) (are : rows ≡ rowsAnswer (checkRows n r (arrayHeads r (read .bound) (read .size)) s first)) where
+    module _ (rows : RowsAnswer)
+        (are : rows ≡ rowsAnswer (checkRows n r (arrayHeads r (read .bound) (read .size)) s first)) where
       checked : rows ≡ rowsAnswer (checkRows n r (taken .heads) s first)
       checked = rw (taken .arrays) at are
 
@@ -53,7 +54,8 @@ module _ (s : List ℕ) (n r at : ℕ) (read : LayersRead) (is : read ≡ layers
       blocks-refused k = rw (taken .reads, rows-refused (checkRows n r (taken .heads) s first) rows checked k)
 
       pub blocks-good : rows ≡ Good
-          → _≡_ {A = PackCheck} (record { answer = Accepted n r first; mu = read .bound; m = read .size }) (packChecked s (afterR s n r at))
+          → _≡_ {A = PackCheck} (record { answer = Accepted n r first; mu = read .bound; m = read .size })
+          (packChecked s (afterR s n r at))
       unfolding afterR
       blocks-good k =
           let t = taken in

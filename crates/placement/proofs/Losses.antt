@@ -3,9 +3,9 @@
 use Prim.Native.Nat.{ℕ, zero, suc, _+_, _*_, _-_, _/_, _^_, _≤_, _<_, min}
 use native.Mathlib.Omega.{arith}
 use native.Mathlib.Numerals.{add-one}
-use mathlib.Core.Path.{_≡_, refl, sym, _∙_, ap}
+use mathlib.Core.Path.{_≡_, _∙_, ap}
 use mathlib.Core.List.{List, [], _∷_}
-use lib.ListN.{length, drop, getD}
+use lib.ListN.{drop, getD}
 use Rattle.lists.specs.Lists.{All, total}
 use Rattle.lists.proofs.Alls.{all-getD}
 use Rattle.lists.proofs.UpTo.{length-map-upTo, getD-map-upTo}
@@ -51,7 +51,8 @@ module _ (s k : ℕ) (lambda c : List ℕ) (lost x : ℕ) (turn : Turn s k lambd
         → above ≡ choose k (x + 1) → getD lambda x 0 * above < 2 ^ 63
     product-fits few small bounds e =
         let none : LayerHead = record { bound = 0; size = 0 } in
-        let at = all-getD (λ head. head .bound ≤ 16_777_216) (arrayHeads s lambda c) x none bounds (rw (length-map-upTo (headAt lambda c) s) h) in
+        let at = all-getD (λ head. head .bound ≤ 16_777_216) (arrayHeads s lambda c) x none bounds
+        (rw (length-map-upTo (headAt lambda c) s) h) in
         rw e (mul-choose-lt (getD lambda x 0) k (x + 1) (rw (getD-map-upTo (headAt lambda c) s x none h) at at) small (omega arith))
 
     pub divisor-positive : {below : ℕ} → below ≡ choose s (x + 1) → 1 ≤ below
@@ -63,5 +64,6 @@ module _ (s k : ℕ) (lambda c : List ℕ) (lost x : ℕ) (turn : Turn s k lambd
       unfolding losses loss
       turn-again =
           let same = rw (drop-arrayHeads lambda c s x h) at (turn .same) in
-          let is : one ≡ min (getD c x 0) (getD lambda x 0 * choose k (suc x) / choose s (suc x)) = el ∙ rw (ea, eb, add-one x) in
+          let is : one ≡ min (getD c x 0) (getD lambda x 0 * choose k (suc x) / choose s (suc x)) = el ∙ rw
+          (ea, eb, add-one x) in
           rw (add-one x) (record { inside = omega arith; same = rw is (omega arith) })

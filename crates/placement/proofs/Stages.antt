@@ -2,16 +2,16 @@
 -- the figure answered. Assumes nothing.
 use Prim.Native.Nat.{ℕ, zero, suc, _-_, _*_, _≤_}
 use native.Mathlib.Omega.{arith}
-use mathlib.Core.Path.{_≡_, refl, sym, _∙_, ap}
+use mathlib.Core.Path.{_≡_, refl, sym, _∙_}
 use mathlib.Core.Bool.{true}
-use mathlib.Core.List.{List, map}
+use mathlib.Core.List.{List}
 use lib.ListN.{length}
 use borrow.Author.Tests.{eq-eqb, ne-eqb}
 use Rattle.lists.specs.Lists.{All}
 use Rattle.lists.proofs.Alls.{all-imp}
 use Rattle.refusal.specs.declared.Refusal.{Refusal}
 use Rattle.refusal.specs.declared.Refusal.the-variants.{WrongFigure}
-use Rattle.refusal.specs.Checked.{Checked, accepted, refused, _>>=_}
+use Rattle.refusal.specs.Checked.{accepted, _>>=_}
 use Rattle.number.specs.Numbers.{Reading}
 use Rattle.layers.specs.Layers.{Layer, LayerHead, LayerHeads, sizes, headsOf, readKind, readLayers, checkRows}
 use Rattle.layers.specs.Answers.{layersRead, arrayHeads, rowsAnswer}
@@ -80,9 +80,11 @@ module _ (bytes : List ℕ) (h : Head) (at : ℕ) (read : LayersRead)
       checked : rows ≡ rowsAnswer (checkRows (h .n) (h .r) (taken .heads) bytes first)
       checked = rw (taken .arrays) at are
 
-      pub records-refused : {e : Refusal} → rows ≡ RowsRefused e → placementRefused e ≡ placementChecked bytes (afterFigure bytes h at)
+      pub records-refused : {e : Refusal} → rows ≡ RowsRefused e → placementRefused e
+          ≡ placementChecked bytes (afterFigure bytes h at)
       unfolding afterFigure
-      records-refused k = rw (taken .reads, rows-refused (checkRows (h .n) (h .r) (taken .heads) bytes first) rows checked k)
+      records-refused k =
+          rw (taken .reads, rows-refused (checkRows (h .n) (h .r) (taken .heads) bytes first) rows checked k)
 
       module _ (good : rows ≡ Good) {figure : ℕ}
           (computed : figure ≡ figureOf (h .s) (h .k) (h .b) (arrayHeads (h .s) (read .bound) (read .size))) where

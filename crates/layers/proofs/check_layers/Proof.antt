@@ -3,7 +3,7 @@
 use Prim.Native.Nat.{_+_, _*_, _-_, _^_, _≤_, _<_}
 use native.Mathlib.Omega.{arith}
 use borrow.Author.Needs.{needs}
-use lib.ListN.{length, length-drop}
+use lib.ListN.{length, getD, length-drop}
 use Rattle.layers.proofs.CrowdLoop.{part-all, Turn, turn-holds, turn-done, turn-fits, turn-ordered, turn-place, turn-crowded, turn-again}
 use Rattle.layers.proofs.check_layers.Statement.{statement}
 use Rattle.layers.proofs.check_layers.Tie as tie
@@ -19,6 +19,13 @@ loop-holds c =
     let p = c .before .pre in
     turn-holds _ _ _ _ _ _ (p .1 .0) (p .1 .1 .0) (p .1 .1 .1)
 
+-- the layer's rows are within the bytes
+fitting : (c : tie.In-loop Inv-loop μ-loop)
+    → let a = c .before .before .before .args in
+    let size = getD (a .t6) (c .before .loop .x) 0 in
+    (size ≤ 4_096) × (c .before .loop .start + size * a .r ≤ length (a .bytes .now))
+fitting c = turn-fits _ _ _ _ _ _ _ _ (c .before .loop .inv) (c .loop-test .taken)
+
 mul-c : tie.Need-mul-c Inv-loop μ-loop
 mul-c c = search needs
 
@@ -29,7 +36,7 @@ sub-first-crowded : tie.Need-sub-first-crowded Inv-loop μ-loop
 sub-first-crowded c = search needs
 
 part-first-crowded-start : tie.Need-part-first-crowded-start Inv-loop μ-loop
-part-first-crowded-start c = omega (arith, turn-fits _ _ _ _ _ _ _ _ (c .before .loop .inv) (c .loop-test .taken))
+part-first-crowded-start c = omega (arith, fitting c)
 
 part-first-crowded-end : tie.Need-part-first-crowded-end Inv-loop μ-loop
 part-first-crowded-end c = search needs
@@ -45,7 +52,7 @@ first-crowded-requires c κs =
     let a = c .before .before .before .before .args in
     let l = c .before .before .loop in
     let test = c .before .loop-test .taken in
-    let fits = turn-fits _ _ _ _ _ _ _ _ (l .inv) test in
+    let fits = fitting (c .before) in
     let part = part-all (a .bytes .now) (l .start) in (
       (fits .0, c .before .before .before .before .pre .0 .1, omega arith, rw (part, length-drop) (omega arith)),
       rw part (turn-ordered _ _ _ _ _ _ _ _ (l .inv) test),
@@ -56,15 +63,19 @@ enum-known-found c = search needs
 
 -- a row that was found starts within the bytes
 place-fits : (c : tie.After-struct-known Inv-loop μ-loop)
-    → let l = c .before .before .before .before .before .before .before .loop in
-    (l .start + c .before .before .found .given .0 .0 .0 * c .before .before .before .before .before .before .before .before .before .args .r ≤ length (c .before .before .before .before .before .before .before .before .before .args .bytes .now))
-    × (length (c .before .before .before .before .before .before .before .before .before .args .bytes .now) < 2 ^ 64)
+    → let a = c .before .before .before .before .before .before .before .before .before .args in
+    let start = c .before .before .before .before .before .before .before .loop .start in
+    let place = start + c .before .before .found .given .0 .0 .0 * a .r in
+    (place ≤ length (a .bytes .now)) × (length (a .bytes .now) < 2 ^ 64)
 place-fits c =
     let a = c .before .before .before .before .before .before .before .before .before .args in
     let l = c .before .before .before .before .before .before .before .loop in
-    let place = turn-place _ _ _ _ _ _ _ _ (l .inv) (c .before .before .before .before .before .before .loop-test .taken) _ (part-all (a .bytes .now) (l .start)) _
-    (c .before .before .before .before .first-crowded .ensures) (c .before .before .found .given .1) in
-    (omega (arith, turn-fits _ _ _ _ _ _ _ _ (l .inv) (c .before .before .before .before .before .before .loop-test .taken)), omega (arith, c .before .before .before .before .before .before .before .before .before .good .0))
+    let fits = fitting (c .before .before .before .before .before .before) in
+    let place = turn-place _ _ _ _ _ _ _ _ (l .inv)
+    (c .before .before .before .before .before .before .loop-test .taken) _
+    (part-all (a .bytes .now) (l .start)) _ (c .before .before .before .before .first-crowded .ensures)
+    (c .before .before .found .given .1) in
+    (omega arith, omega (arith, c .before .before .before .before .before .before .before .before .before .good .0))
 
 mul-t25 : tie.Need-mul-t25 Inv-loop μ-loop
 mul-t25 c =
@@ -80,17 +91,22 @@ returns : tie.Need-returns Inv-loop μ-loop
 returns c =
     let a = c .before .before .before .before .before .before .before .before .before .args in
     let l = c .before .before .before .before .before .before .before .loop in
-    turn-crowded _ _ _ _ _ _ _ _ (l .inv) (c .before .before .before .before .before .before .loop-test .taken) _ (part-all (a .bytes .now) (l .start)) _
+    turn-crowded _ _ _ _ _ _ _ _ (l .inv) (c .before .before .before .before .before .before .loop-test .taken) _
+    (part-all (a .bytes .now) (l .start)) _
     (c .before .before .before .before .first-crowded .ensures) (c .before .before .found .given .1)
 
 enum-told : tie.Need-enum-told Inv-loop μ-loop
 enum-told c = search needs
 
 mul-start : tie.Need-mul-start Inv-loop μ-loop
-mul-start c = omega (arith, turn-fits _ _ _ _ _ _ _ _ (c .before .before .before .before .before .loop .inv) (c .before .before .before .before .loop-test .taken), c .before .before .before .before .before .before .before .good .0)
+mul-start c =
+    let fits = fitting (c .before .before .before .before) in omega
+    (arith, c .before .before .before .before .before .before .before .good .0)
 
 add-start : tie.Need-add-start Inv-loop μ-loop
-add-start c = omega (arith, turn-fits _ _ _ _ _ _ _ _ (c .before .before .before .before .before .loop .inv) (c .before .before .before .before .loop-test .taken), c .before .before .before .before .before .before .before .good .0)
+add-start c =
+    let fits = fitting (c .before .before .before .before) in omega
+    (arith, c .before .before .before .before .before .before .before .good .0)
 
 add-x : tie.Need-add-x Inv-loop μ-loop
 add-x c = search needs
@@ -102,7 +118,8 @@ loop-again : tie.Need-loop-again Inv-loop μ-loop
 loop-again c =
     let a = c .before .before .before .before .before .before .before .args in
     let l = c .before .before .before .before .before .loop in
-    turn-again _ _ _ _ _ _ _ _ (l .inv) (c .before .before .before .before .loop-test .taken) _ (part-all (a .bytes .now) (l .start)) _
+    turn-again _ _ _ _ _ _ _ _ (l .inv) (c .before .before .before .before .loop-test .taken) _
+    (part-all (a .bytes .now) (l .start)) _
     (c .before .before .first-crowded .ensures) (c .enum-told .given .1)
 
 returns-2 : tie.Need-returns-2 Inv-loop μ-loop

@@ -70,7 +70,11 @@ place-fits : (c : tie.After-struct-known)
     (a .at + c .before .before .bad .given .0 .0 .0 * a .r ≤ length (a .bytes .now)) × (length (a .bytes .now) < 2 ^ 63)
 place-fits c =
     let a = c .before .before .before .before .before .before .before .before .before .before .args in
-    let place = rows-place (a .n) (a .r) (arrayHeads (a .layers) (a .bound) (a .size)) (a .bytes .now) (a .at) (c .before .before .before .before .before .before .before .before .count-rows .result) (counted (c .before .before .before .before .before .before .before .before)) (omega arith) _ (part-all (a .bytes .now) (a .at)) (c .before .before .before .before .first-bad .result) (c .before .before .before .before .first-bad .ensures)
+    let place = rows-place (a .n) (a .r) (arrayHeads (a .layers) (a .bound) (a .size)) (a .bytes .now) (a .at)
+    (c .before .before .before .before .before .before .before .before .count-rows .result)
+    (counted (c .before .before .before .before .before .before .before .before)) (omega arith) _
+    (part-all (a .bytes .now) (a .at)) (c .before .before .before .before .first-bad .result)
+    (c .before .before .before .before .first-bad .ensures)
     (c .before .before .bad .given .1) in
     let small = fits (c .before .before .before .before .before .before .before .before) in
     (omega arith, small .2)
@@ -84,7 +88,8 @@ add-t21 c = let place = place-fits c in omega arith
 returns-3 : tie.Need-returns-3
 returns-3 c =
     let a = c .before .before .before .before .before .before .before .before .before .before .args in
-    rows-bad _ _ _ _ _ _ (counted (c .before .before .before .before .before .before .before .before)) (omega arith) _ (part-all (a .bytes .now) (a .at)) _ (c .before .before .before .before .first-bad .ensures)
+    rows-bad _ _ _ _ _ _ (counted (c .before .before .before .before .before .before .before .before)) (omega arith) _
+    (part-all (a .bytes .now) (a .at)) _ (c .before .before .before .before .first-bad .ensures)
     (c .before .before .bad .given .1)
 
 enum-told : tie.Need-enum-told
@@ -97,13 +102,17 @@ check-layers-requires c κs =
     let count = counted (c .before .before .before .before .before .before) in
     let end : a .at + sizes (arrayHeads (a .layers) (a .bound) (a .size)) * a .r ≤ length (a .bytes .now) =
     rw (← count) (omega arith) in
-    let ordered = rows-ordered (a .n) (a .r) (arrayHeads (a .layers) (a .bound) (a .size)) (a .bytes .now) (a .at) (c .before .before .before .before .before .before .count-rows .result) count (omega arith) _ (part-all (a .bytes .now) (a .at)) (c .before .before .first-bad .result) (c .before .before .first-bad .ensures) (c .enum-told .given .1) in
+    let ordered = rows-ordered (a .n) (a .r) (arrayHeads (a .layers) (a .bound) (a .size)) (a .bytes .now) (a .at)
+    (c .before .before .before .before .before .before .count-rows .result) count (omega arith) _
+    (part-all (a .bytes .now) (a .at)) (c .before .before .first-bad .result) (c .before .before .first-bad .ensures)
+    (c .enum-told .given .1) in
     ((p .0 .0, p .0 .1), (p .1, (end, ordered)))
 
 returns-4 : tie.Need-returns-4
 returns-4 c =
     let a = c .before .before .before .before .before .before .before .before .before .args in
-    rows-left _ _ _ _ _ _ (counted (c .before .before .before .before .before .before .before)) (omega arith) _ (part-all (a .bytes .now) (a .at)) _ (c .before .before .before .first-bad .ensures)
+    rows-left _ _ _ _ _ _ (counted (c .before .before .before .before .before .before .before)) (omega arith) _
+    (part-all (a .bytes .now) (a .at)) _ (c .before .before .before .first-bad .ensures)
     (c .before .enum-told .given .1) (c .check-layers .ensures)
 
 pub check-rows-spec : {M : Type 1} → statement M

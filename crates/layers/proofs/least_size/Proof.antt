@@ -29,7 +29,8 @@ returns-2 : tie.Need-returns-2
 returns-2 c = let a = c .before .before .args in followed (a .full) (a .after) (a .room) (c .if2 .taken)
 
 returns-3 : tie.Need-returns-3
-returns-3 c = let a = c .before .before .args in last (a .full) (a .after) (a .room) (c .before .if1 .left) (c .if2 .left)
+returns-3 c =
+    let a = c .before .before .args in last (a .full) (a .after) (a .room) (c .before .if1 .left) (c .if2 .left)
 
 pub least-size-spec : {M : Type 1} → statement M
 least-size-spec = tie.close (tie.spec returns returns-2 returns-3)

@@ -19,7 +19,8 @@ returns c = kind-not-read _ _ _ (c .before .before .read-number .ensures) (c .en
 
 returns-2 : tie.Need-returns-2
 returns-2 c =
-    kind-is _ _ _ (c .before .before .before .before .read-number .ensures) (c .before .before .first .given .1) (c .if1 .taken)
+    kind-is _ _ _ (c .before .before .before .before .read-number .ensures) (c .before .before .first .given .1)
+    (c .if1 .taken)
 
 returns-3 : tie.Need-returns-3
 returns-3 c =

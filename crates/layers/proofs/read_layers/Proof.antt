@@ -40,9 +40,11 @@ layer-failed-requires c κs = search needs
 
 returns : tie.Need-returns Inv-loop μ-loop
 returns c =
+    let t = c .before .before .before in
     c .layer-failed .ensures
-    ∙ turn-refused _ _ _ _ _ _ _ _ _ _ (c .before .before .before .before .before .before .loop .inv) (c .before .before .before .before .before .loop-test .taken) (c .before .before .before .before .before .before .before .before .pre) _ (c .before .before .before .before .least-size .ensures) _
-    (c .before .before .before .read-layer .ensures) (c .before .enum-told .given .1)
+    ∙ turn-refused _ _ _ _ _ _ _ _ _ _ (t .before .before .before .loop .inv) (t .before .before .loop-test .taken)
+    (t .before .before .before .before .before .pre) _ (t .before .least-size .ensures) _ (t .read-layer .ensures)
+    (c .before .enum-told .given .1)
 
 mul-bounds : tie.Need-mul-bounds Inv-loop μ-loop
 mul-bounds c = search needs
@@ -58,8 +60,10 @@ array-write-sizes c = search needs
 
 sub-rest : tie.Need-sub-rest Inv-loop μ-loop
 sub-rest c =
-    turn-fits _ _ _ _ _ _ _ _ _ _ (c .before .before .before .before .before .before .loop .inv) (c .before .before .before .before .before .loop-test .taken) (c .before .before .before .before .before .before .before .before .pre) _ (c .before .before .before .before .least-size .ensures) _
-    (c .before .before .before .read-layer .ensures) (c .before .layer .given .1)
+    let t = c .before .before .before in
+    turn-fits _ _ _ _ _ _ _ _ _ _ (t .before .before .before .loop .inv) (t .before .before .loop-test .taken)
+    (t .before .before .before .before .before .pre) _ (t .before .least-size .ensures) _ (t .read-layer .ensures)
+    (c .before .layer .given .1)
 
 add-x : tie.Need-add-x Inv-loop μ-loop
 add-x c = search needs
@@ -69,8 +73,10 @@ loop-less c = search needs
 
 loop-again : tie.Need-loop-again Inv-loop μ-loop
 loop-again c =
-    turn-again _ _ _ _ _ _ _ _ _ _ (c .before .before .before .before .before .before .loop .inv) (c .before .before .before .before .before .loop-test .taken) (c .before .before .before .before .before .before .before .before .pre) _ (c .before .before .before .before .least-size .ensures) _
-    (c .before .before .before .read-layer .ensures) (c .before .layer .given .1)
+    let t = c .before .before .before in
+    turn-again _ _ _ _ _ _ _ _ _ _ (t .before .before .before .loop .inv) (t .before .before .loop-test .taken)
+    (t .before .before .before .before .before .pre) _ (t .before .least-size .ensures) _ (t .read-layer .ensures)
+    (c .before .layer .given .1)
 
 returns-2 : tie.Need-returns-2 Inv-loop μ-loop
 returns-2 c = turn-done _ _ _ _ _ _ _ _ _ _ (c .before .loop .inv) (c .loop-test .left)

@@ -32,26 +32,31 @@ returns : tie.Need-returns
 unfolding afterN
 returns c =
     let a = c .before .before .before .before .before .before .before .args in
+    let number = c .before .before .before .before in
+    let read = rw (number .before .smaller .ensures) at (number .read-within .ensures) in
     c .refuse .ensures
     ∙ stage-refused (packChecked (a .bytes .now)) (readWithin 2 (min 5 (a .n)) (a .bytes .now) (a .at))
-    (λ r. afterR (a .bytes .now) (a .n) (r .value) (r .next)) _
-    (rw (c .before .before .before .before .before .smaller .ensures) at (c .before .before .before .before .read-within .ensures)) (c .before .before .enum-told .given .1) (c .before .refusal-of .ensures)
+    (λ r. afterR (a .bytes .now) (a .n) (r .value) (r .next)) _ read
+    (c .before .before .enum-told .given .1) (c .before .refusal-of .ensures)
 
 after-r-requires : tie.Need-after-r-requires
 after-r-requires c κs =
     let a = c .before .before .before .before .before .before .args in
     let limits = read-limits 2 (min 5 (a .n)) (a .bytes .now) (a .at) (c .before .before .before .read-within .result)
-    (rw (c .before .before .before .before .smaller .ensures) at (c .before .before .before .read-within .ensures)) (c .before .read .given .1) in
+    (rw (c .before .before .before .before .smaller .ensures) at (c .before .before .before .read-within .ensures))
+    (c .before .read .given .1) in
     (omega arith, limits .2)
 
 returns-2 : tie.Need-returns-2
 unfolding afterN
 returns-2 c =
     let a = c .before .before .before .before .before .before .before .args in
+    let number = c .before .before .before .before in
+    let read = rw (number .before .smaller .ensures) at (number .read-within .ensures) in
     c .after-r .ensures
     ∙ stage-read (packChecked (a .bytes .now)) (readWithin 2 (min 5 (a .n)) (a .bytes .now) (a .at))
-    (λ r. afterR (a .bytes .now) (a .n) (r .value) (r .next)) _
-    (rw (c .before .before .before .before .before .smaller .ensures) at (c .before .before .before .before .read-within .ensures)) (c .before .before .read .given .1)
+    (λ r. afterR (a .bytes .now) (a .n) (r .value) (r .next)) _ read
+    (c .before .before .read .given .1)
 
 pub after-n-spec : {M : Type 1} → statement M
 after-n-spec =

@@ -1,6 +1,6 @@
 -- `pack::after_r` meets its contract: each return is a case of `afterR`, over what the layers' numbers and the rows
 -- answered. Assumes nothing.
-use mathlib.Core.Path.{_∙_, sym}
+use mathlib.Core.Path.{_∙_}
 use borrow.Author.Needs.{needs}
 use Rattle.pack.proofs.Stages.{heads-refused, rows-asked, blocks-refused, blocks-good}
 use Rattle.pack.proofs.after_r.Statement.{statement}
@@ -20,9 +20,11 @@ enum-known-answer-2 c = search needs
 
 check-rows-requires : tie.Need-check-rows-requires
 check-rows-requires c κs =
-    let p = c .before .before .before .before .before .before .before .pre in
-    let a = c .before .before .before .before .before .before .before .args in
-    rows-asked (a .bytes .now) (a .n) (a .r) (a .at) _ (c .before .before .before .before .before .read-layers .ensures) (p .0) (p .1) (c .before .answer2 .given .1)
+    let t = c in
+    let a = t .before .before .before .before .before .before .before .args in
+    let p = t .before .before .before .before .before .before .before .pre in
+    rows-asked (a .bytes .now) (a .n) (a .r) (a .at) _ (t .before .before .before .before .before .read-layers .ensures)
+    (p .0) (p .1) (t .before .answer2 .given .1)
 
 enum-known-e : tie.Need-enum-known-e
 enum-known-e c = search needs
@@ -36,19 +38,28 @@ enum-told c = search needs
 returns : tie.Need-returns
 returns c =
     c .refuse .ensures
-    ∙ heads-refused _ _ _ _ _ (c .before .before .before .before .before .before .read-layers .ensures) (c .before .before .answer .given .1)
+    ∙ heads-refused _ _ _ _ _ (c .before .before .before .before .before .before .read-layers .ensures)
+    (c .before .before .answer .given .1)
 
 returns-2 : tie.Need-returns-2
 returns-2 c =
-    let p = c .before .before .before .before .before .before .before .before .before .before .before .before .pre in
+    let t = c .before .before .before .before .before in
+    let a = t .before .before .before .before .before .before .before .args in
+    let p = t .before .before .before .before .before .before .before .pre in
     c .refuse2 .ensures
-    ∙ blocks-refused _ _ _ _ _ (c .before .before .before .before .before .before .before .before .before .before .read-layers .ensures) (p .0) (p .1) (c .before .before .before .before .before .before .answer2 .given .1) _
+    ∙ blocks-refused (a .bytes .now) (a .n) (a .r) (a .at) _
+    (t .before .before .before .before .before .read-layers .ensures)
+    (p .0) (p .1) (t .before .answer2 .given .1) _
     (c .before .before .before .before .check-rows .ensures) (c .before .before .e .given .1)
 
 returns-3 : tie.Need-returns-3
 returns-3 c =
-    let p = c .before .before .before .before .before .before .before .before .before .before .pre in
-    blocks-good _ _ _ _ _ (c .before .before .before .before .before .before .before .before .read-layers .ensures) (p .0) (p .1) (c .before .before .before .before .answer2 .given .1) _
+    let t = c .before .before .before in
+    let a = t .before .before .before .before .before .before .before .args in
+    let p = t .before .before .before .before .before .before .before .pre in
+    blocks-good (a .bytes .now) (a .n) (a .r) (a .at) _
+    (t .before .before .before .before .before .read-layers .ensures)
+    (p .0) (p .1) (t .before .answer2 .given .1) _
     (c .before .before .check-rows .ensures) (c .enum-told .given .1)
 
 pub after-r-spec : {M : Type 1} → statement M

@@ -1,5 +1,4 @@
 -- `placement::after_b` meets its contract: the figure is read, and what follows it checked. Assumes nothing.
-use native.Mathlib.Omega.{arith}
 use mathlib.Core.Path.{_∙_}
 use borrow.Author.Needs.{needs}
 use Rattle.number.specs.Numbers.{Reading, readWithin}

@@ -32,10 +32,11 @@ returns : tie.Need-returns
 unfolding afterN
 returns c =
     let a = c .before .before .before .before .before .before .before .args in
+    let number = c .before .before .before .before in
+    let read = rw (number .before .smaller .ensures) at (number .read-within .ensures) in
     c .refuse .ensures
     ∙ stage-refused (placementChecked (a .bytes .now)) (readWithin 2 (min 5 (a .n)) (a .bytes .now) (a .at))
-    (λ r. afterR (a .bytes .now) (a .n) (r .value) (r .next)) _
-    (rw (c .before .before .before .before .before .smaller .ensures) at (c .before .before .before .before .read-within .ensures))
+    (λ r. afterR (a .bytes .now) (a .n) (r .value) (r .next)) _ read
     (c .before .before .enum-told .given .1) (c .before .refusal-of .ensures)
 
 after-r-requires : tie.Need-after-r-requires
@@ -43,17 +44,19 @@ after-r-requires c κs =
     let a = c .before .before .before .before .before .before .args in
     let p = c .before .before .before .before .before .before .pre in
     let limits = read-limits 2 (min 5 (a .n)) (a .bytes .now) (a .at) (c .before .before .before .read-within .result)
-    (rw (c .before .before .before .before .smaller .ensures) at (c .before .before .before .read-within .ensures)) (c .before .read .given .1) in
+    (rw (c .before .before .before .before .smaller .ensures) at (c .before .before .before .read-within .ensures))
+    (c .before .read .given .1) in
     (omega arith, p .0, p .1)
 
 returns-2 : tie.Need-returns-2
 unfolding afterN
 returns-2 c =
     let a = c .before .before .before .before .before .before .before .args in
+    let number = c .before .before .before .before in
+    let read = rw (number .before .smaller .ensures) at (number .read-within .ensures) in
     c .after-r .ensures
     ∙ stage-read (placementChecked (a .bytes .now)) (readWithin 2 (min 5 (a .n)) (a .bytes .now) (a .at))
-    (λ r. afterR (a .bytes .now) (a .n) (r .value) (r .next)) _
-    (rw (c .before .before .before .before .before .smaller .ensures) at (c .before .before .before .before .read-within .ensures))
+    (λ r. afterR (a .bytes .now) (a .n) (r .value) (r .next)) _ read
     (c .before .before .read .given .1)
 
 pub after-n-spec : {M : Type 1} → statement M

@@ -42,7 +42,8 @@ returns-2 c =
     let a = c .before .before .before .before .before .before .args in
     c .after-kind .ensures
     ∙ stage-read (placementChecked (a .bytes .now)) (readKind 2 (a .bytes .now))
-    (λ kind. afterKind (a .bytes .now) (kind .next)) _ (c .before .before .before .before .read-kind .ensures) (c .before .before .read .given .1)
+    (λ kind. afterKind (a .bytes .now) (kind .next)) _ (c .before .before .before .before .read-kind .ensures)
+    (c .before .before .read .given .1)
     ∙ sym (ap (placementChecked (a .bytes .now)) (stages (a .bytes .now)))
 
 pub check-placement-spec : {M : Type 1} → statement M

@@ -54,7 +54,8 @@ again : (c : tie.After-loss Inv-loop μ-loop)
     let l = c .before .before .before .before .loop in
     Turn (a .s) (a .k) (a .t4) (a .t5) (l .lost + c .loss .result) (l .x + 1)
 again c =
-    turn-again _ _ _ _ _ _ (c .before .before .before .before .loop .inv) (c .before .before .before .loop-test .taken) (c .before .before .binomial .ensures) (c .before .binomial2 .ensures)
+    turn-again _ _ _ _ _ _ (c .before .before .before .before .loop .inv) (c .before .before .before .loop-test .taken)
+    (c .before .before .binomial .ensures) (c .before .binomial2 .ensures)
     (c .loss .ensures)
 
 add-lost : tie.Need-add-lost Inv-loop μ-loop
