@@ -1,6 +1,7 @@
 // `check`: reads a placement on standard input and prints its line, or the line of its refusal. No byte after the first
 // 32,768 changes what is printed.
-use libc::{STDIN_FILENO, STDOUT_FILENO};
+use libc::STDIN_FILENO;
+use libc::STDOUT_FILENO;
 
 fn main() {
     let mut buffer = [0u8; 32768];

@@ -1,6 +1,7 @@
 // `plan`: reads s, k and b and then a pack on standard input, and writes the placement, or the line of the refusal. No byte
 // after the first 32,768 changes what is written.
-use libc::{STDIN_FILENO, STDOUT_FILENO};
+use libc::STDIN_FILENO;
+use libc::STDOUT_FILENO;
 
 fn main() {
     let mut buffer = [0u8; 32768];

@@ -89,6 +89,16 @@ module _ (numbers before after : List ℕ) (at place i : ℕ) (turn : Turn numbe
           same = rw (e, f, add-one place) (sym halves ∙ same);
         }
 
+-- A reply at the slice's start is within it.
+pub replied-of : (reply : List ℕ) (answer : ℕ) (before after : List ℕ) → answer ≡ length reply
+    → after ≡ reply ++ drop (length reply) before → Replied reply answer before after
+replied-of reply answer before after e w =
+    record {
+      answered = e;
+      inside = omega (arith, ap length w, length-append reply (drop (length reply) before));
+      written = w;
+    }
+
 -- The line: its word from the start, then its numbers.
 pub line-replied : (word numbers before between after : List ℕ) (next : ℕ)
     → length word + 21 * length numbers + 1 ≤ length before → between ≡ sets before 0 word
@@ -97,7 +107,5 @@ line-replied word numbers before between after next h e (p, q) =
     let all = length-append word (rest numbers) in
     let whole : after ≡ sets before 0 (word ++ rest numbers) =
     rw (q, e) (sym (sets-append before 0 word (rest numbers) ∙ rw zero-add)) in
-    record {
-      answered = p ∙ sym all;
-      written = whole ∙ sets-start before (word ++ rest numbers) (omega (arith, rest-length-le numbers));
-    }
+    replied-of (word ++ rest numbers) next before after (p ∙ sym all)
+    (whole ∙ sets-start before (word ++ rest numbers) (omega (arith, rest-length-le numbers)))

@@ -24,6 +24,7 @@ use Rattle.planner.specs.declared.PlanAnswer.the-variants.{Planned, Refused}
 use Rattle.planner.specs.declared.PlanResult.{PlanResult}
 use Rattle.report.specs.Programs.{refusedLine, orRefusedLine, planInput, planReply}
 use Rattle.report.specs.Replies.{Replied, plannedReply}
+use Rattle.report.proofs.Lines.{replied-of}
 
 -- an order that passed is within limits
 order-most : (pack : Pack) (s k b : ℕ) {u : Unit} → checkOrder pack s k b ≡ accepted u → (s ≤ pack .r) × (b ≤ 4_096)
@@ -92,7 +93,9 @@ module _ (pack : List ℕ) (s k b : ℕ) (work before between : List ℕ) (bytes
     where
       go : (o : Checked Placement) → result .answer ≡ planAnswer o .answer → between ≡ outputAfter o before
           → Replied (orRefusedLine (mapAccepted placementBytes o)) size before between
-      go (accepted p) e w = let same : size ≡ length (placementBytes p) = cc in record { answered = same; written = w }
+      go (accepted p) e w =
+          let same : size ≡ length (placementBytes p) = cc in
+          replied-of (placementBytes p) size before between same w
       go (refused why) e w = absurd (let z : _≡_ {A = ℕ} 0 1 = cc in omega arith)
 
   -- a refusal's line is written into the output as it was

@@ -1,5 +1,5 @@
 -- A reply in a lent slice, and the part of `plan`'s reply after its three numbers. Assumes nothing.
-use Prim.Native.Nat.{ℕ}
+use Prim.Native.Nat.{ℕ, _≤_}
 use mathlib.Core.Path.{_≡_}
 use mathlib.Core.List.{List, _++_}
 use lib.ListN.{length, drop}
@@ -8,9 +8,11 @@ use Rattle.placement.specs.Placement.{placementBytes}
 use Rattle.planner.specs.Planning.{planned}
 use Rattle.report.specs.Programs.{orRefusedLine}
 
--- The reply stands at the slice's start, its length is the answer, and "bytes .. past the written length don't change".
+-- The reply stands at the slice's start, its length is the answer, and "bytes .. past the written length don't change". That
+-- the answer is within the slice follows; it is stated for a caller that hands on the slice's first bytes.
 pub record Replied (reply : List ℕ) (answer : ℕ) (before after : List ℕ) : Type 0 where
   pub answered : answer ≡ length reply
+  pub inside : answer ≤ length after
   pub written : after ≡ reply ++ drop (length reply) before
 
 -- "and writes the placement or the refused line", for a pack and the three numbers
