@@ -65,7 +65,7 @@ fn loss(lambda: usize, c: usize, above: usize, below: usize) -> usize
 }
 
 // The figure: b less the losses of the layers below s. The two binomials are looked up once a layer.
-fn figure_of(s: usize, k: usize, b: usize, lambda: [usize; 5], c: [usize; 5]) -> usize
+pub fn figure_of(s: usize, k: usize, b: usize, lambda: [usize; 5], c: [usize; 5]) -> usize
     requires { ⌜ (s ≤ 5) × (k ≤ 255) × (sizes (arrayHeads s lambda c) ≤ b) ⌝ }
     requires { ⌜ All (λ head. head .bound ≤ 16_777_216) (arrayHeads s lambda c) ⌝ }
     ensures { λ r. ⌜ r ≡ figureOf s k b (arrayHeads s lambda c) ⌝ }

@@ -7,20 +7,19 @@ use mathlib.Core.List.{List, [], _∷_, _++_, map, map-map, flatten}
 use lib.ListN.{length, getD, take, drop}
 use lib.Seq.{drop-drop}
 use Rattle.lists.specs.Lists.{All, total, upTo}
-use Rattle.lists.proofs.Alls.{all-imp}
-use Rattle.lists.proofs.UpTo.{length-map-upTo, getD-map-upTo, map-upTo-congr, take-map-upTo}
+use Rattle.lists.proofs.Alls.{all-map}
+use Rattle.lists.proofs.UpTo.{length-map-upTo, all-upTo, getD-map-upTo, map-upTo-congr}
 use Rattle.packing.specs.Rows.{rowsAt, repeated}
 use Rattle.layers.specs.Layers.{Layer, LayerHead, size, sizes, allRows, headsOf, layersAt}
 use Rattle.layers.proofs.Layouts.{headsOf-layersAt}
 use Rattle.pack.specs.Pack.{Pack}
 use Rattle.split.specs.Splits.{Share, Split, layerAt, copiesFor, shareOf, shareHead, splitHeads}
 use Rattle.split.proofs.Bounds.{copiesFor-mul-bound-le}
-use Rattle.split.proofs.Heads.{split-count-le}
+use Rattle.lists.proofs.UpTo.{take-map-upTo}
 use Rattle.layers.specs.Answers.{arrayHeads}
 use Rattle.planner.specs.Planning.{blocksAt, placed, splitPlacement, OrderLimits}
 use Rattle.planner.specs.Writing.{totalBelow, lambdaOf, layerRows, arrayPack, leastCopies, countsPlacement, Writable}
 use Rattle.planner.proofs.Layering.{totalBelow-mono, totalBelow-suc}
-use Rattle.planner.proofs.Placed.{layer-all, layerAt-heads}
 
 -- the blocks of layer x begin after those of the layers below it
 blocksAt-layersAt : (r : ℕ) (heads : List LayerHead) (s : List ℕ) (x : ℕ) → x < length heads
@@ -59,83 +58,73 @@ module _ (mu m : List ℕ) where
 getD-le-totalBelow : (array : List ℕ) (x s : ℕ) → x < s → getD array x 0 ≤ totalBelow array s
 getD-le-totalBelow array x s h = omega (arith, totalBelow-suc array x, totalBelow-mono array (suc x) s h)
 
-module _ (n r : ℕ) (mu m blocks : List ℕ) (s k b : ℕ) (counts : List ℕ) where
+module _ (n r : ℕ) (mu m blocks : List ℕ) where
   abbrev pack : Pack
   pack = arrayPack n r mu m blocks
 
-  heads-are : headsOf (pack .layers) ≡ arrayHeads r mu m
-  heads-are = headsOf-layersAt r (arrayHeads r mu m) blocks
-
   pub layerAt-is : (x : ℕ) → x < r → layerAt (headsOf (pack .layers)) x ≡ record { bound = getD mu x 0; size = getD m x 0 }
-  layerAt-is x h = ap (λ (l : List LayerHead). layerAt l x) heads-are ∙ layerAt-arrayHeads mu m r x h
+  layerAt-is x h =
+      ap (λ (l : List LayerHead). layerAt l x) (headsOf-layersAt r (arrayHeads r mu m) blocks)
+      ∙ layerAt-arrayHeads mu m r x h
+
+module _ {n r : ℕ} {mu m blocks : List ℕ} {s k b : ℕ} {counts : List ℕ} (w : Writable n r mu m blocks s k b counts) where
+  abbrev heads : List LayerHead
+  heads = headsOf (pack n r mu m blocks .layers)
 
   abbrev split : ℕ → Share
-  split = leastCopies (headsOf (pack .layers)) counts
+  split = leastCopies heads counts
 
-  module _ (w : Writable pack s k b counts) where
-    within : (x : ℕ) → x < s → x < r
-    within x h = omega (arith, w .order .s-most)
+  within : (x : ℕ) → x < s → x < r
+  within x h = omega (arith, w .order .s-most)
 
-    -- the counts of the layers below s sum to b
-    pub counts-sum : totalBelow counts s ≡ b
-    counts-sum =
-        sym (ap total (map-map (λ head. head .size) (λ x. shareHead (layerAt (headsOf (pack .layers)) x) (split x)) (upTo s)))
-        ∙ w .is-split .sum
+  pub s-le-five : s ≤ 5
+  s-le-five = omega (arith, w .order .s-most, w .held .good .limits .r-most)
 
-    pub count-most : (x : ℕ) → x < s → getD counts x 0 ≤ 4_096
-    count-most x h = omega (arith, getD-le-totalBelow counts x s h, counts-sum, w .order .b-most)
+  -- the counts of the layers below s sum to b
+  pub counts-sum : totalBelow counts s ≡ b
+  counts-sum =
+      sym (ap total (map-map (λ head. head .size) (λ x. shareHead (layerAt heads x) (split x)) (upTo s)))
+      ∙ w .is-split .sum
 
-    pub size-most : (x : ℕ) → x < s → getD m x 0 ≤ 4_096
-    size-most x h =
-        omega (
-          arith,
-          getD-le-totalBelow m x r (within x h),
-          sizes-arrayHeads mu m r,
-          ap sizes heads-are,
-          w .good .limits .blocks-most,
-        )
+  pub count-most : (x : ℕ) → x < s → getD counts x 0 ≤ 4_096
+  count-most x h = omega (arith, getD-le-totalBelow counts x s h, counts-sum, w .order .b-most)
 
-    pub mu-most : (x : ℕ) → x < s → getD mu x 0 ≤ 4_096
-    mu-most x h =
-        let most : blocksAt (pack .layers) x .bound ≤ 4_096 =
-        layer-all (λ layer. layer .bound ≤ 4_096) (pack .layers) x (omega arith)
-        (all-imp _ (λ layer. layer .bound ≤ 4_096) (λ layer g. g .1) (pack .layers) (w .good .limits .mu-limits))
-        in
-        let same : blocksAt (pack .layers) x .bound ≡ getD mu x 0 =
-        ap (λ (head : LayerHead). head .bound) (sym (layerAt-heads (pack .layers) x) ∙ layerAt-is x (within x h))
-        in
-        omega arith
+  -- a layer with records has blocks
+  pub some-blocks : (x : ℕ) → x < s → 0 < getD counts x 0 → 0 < getD m x 0
+  some-blocks x h some =
+      held (getD m x 0) (copiesFor (getD counts x 0) (getD m x 0))
+      (rw (layerAt-is n r mu m blocks x (within x h)) at (w .is-split .held x h))
+    where
+      held : (m d : ℕ) → getD counts x 0 ≤ d * m → 0 < m
+      held zero d g = omega arith
+      held (suc m) d g = omega arith
 
-    -- a layer with records has blocks
-    pub blocks-held : (x : ℕ) → x < s → 0 < getD counts x 0 → 0 < getD m x 0
-    blocks-held x h some =
-        held (getD m x 0) (copiesFor (getD counts x 0) (getD m x 0))
-        (rw (layerAt-is x (within x h)) at (w .is-split .held x h))
-      where
-        held : (m d : ℕ) → getD counts x 0 ≤ d * m → 0 < m
-        held zero d g = omega arith
-        held (suc m) d g = omega arith
+  -- the blocks of the layers below s are within those of all layers
+  pub blocks-fit : totalBelow m s * r ≤ length blocks
+  blocks-fit =
+      le-trans (mul-le-mul-right r (totalBelow-mono m s r (w .order .s-most))) (rw (sizes-arrayHeads mu m r) at (w .held .whole))
 
-    pub lambda-most : (x : ℕ) → x < s → lambdaOf mu m counts x ≤ 16_777_216
-    lambda-most x h =
-        copiesFor-mul-bound-le (getD counts x 0) (getD m x 0) (getD mu x 0) (count-most x h) (mu-most x h)
+  pub lambda-most : (x : ℕ) → x < s → lambdaOf mu m counts x ≤ 16_777_216
+  lambda-most x h =
+      copiesFor-mul-bound-le (getD counts x 0) (getD m x 0) (getD mu x 0) (count-most x h) (w .held .mu-most x)
 
-    -- the split's two numbers of each layer
-    pub splitHeads-are : (lambda : List ℕ) → ((x : ℕ) → x < s → getD lambda x 0 ≡ lambdaOf mu m counts x)
-        → splitHeads (headsOf (pack .layers)) s split ≡ arrayHeads s lambda counts
-    splitHeads-are lambda are =
-        map-upTo-congr _ _ s (λ x h. rw (layerAt-is x (within x h), are x h))
+  -- the split's rows, layer by layer
+  pub allRows-are : allRows (countsPlacement (pack n r mu m blocks) s k b counts .layers) ≡ flatten (map (layerRows r blocks m counts) (upTo s))
+  unfolding splitPlacement
+  allRows-are =
+      ap flatten
+      (map-map (λ layer. layer .rows) (λ x. placed (blocksAt (pack n r mu m blocks .layers) x) (split x)) (upTo s)
+      ∙ map-upTo-congr _ _ s (λ x h. ap (λ (l : List (List ℕ)). repeated l (getD counts x 0)) (blocksAt-arrayHeads mu m r blocks x (within x h))))
 
-    -- its rows, layer by layer
-    pub allRows-are : allRows (countsPlacement pack s k b counts .layers) ≡ flatten (map (layerRows r blocks m counts) (upTo s))
-    unfolding splitPlacement
-    allRows-are =
-        ap flatten
-        (map-map (λ layer. layer .rows) (λ x. placed (blocksAt (pack .layers) x) (split x)) (upTo s)
-        ∙ map-upTo-congr _ _ s (λ x h. ap (λ (l : List (List ℕ)). repeated l (getD counts x 0)) (blocksAt-arrayHeads mu m r blocks x (within x h))))
+  -- its two numbers of each layer
+  module _ (lambda : List ℕ) (are : (x : ℕ) → x < s → getD lambda x 0 ≡ lambdaOf mu m counts x) where
+    pub splitHeads-are : splitHeads heads s split ≡ arrayHeads s lambda counts
+    splitHeads-are = map-upTo-congr _ _ s (λ x h. rw (layerAt-is n r mu m blocks x (within x h), are x h))
 
-    -- the blocks of the layers below s are within those of all layers
-    pub blocks-fit : sizes (arrayHeads r mu m) * r ≤ length blocks → totalBelow m s * r ≤ length blocks
-    blocks-fit h =
-        le-trans (mul-le-mul-right r (totalBelow-mono m s r (w .order .s-most)))
-        (rw (sizes-arrayHeads mu m r) at h)
+    pub sizes-within : sizes (arrayHeads s lambda counts) ≤ b
+    sizes-within = omega (arith, sizes-arrayHeads lambda counts s, counts-sum)
+
+    pub bounds-most : All (λ head. head .bound ≤ 16_777_216) (arrayHeads s lambda counts)
+    bounds-most =
+        all-map (λ head. head .bound ≤ 16_777_216) (headAt lambda counts) (upTo s)
+        (all-upTo (λ x. getD lambda x 0 ≤ 16_777_216) s (λ x h. rw (are x h) (lambda-most x h)))

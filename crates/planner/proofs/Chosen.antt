@@ -8,7 +8,7 @@ use mathlib.Core.List.{List, map, map-map}
 use lib.ListN.{length, getD, drop}
 use lib.Seq.{take-length}
 use Rattle.lists.specs.Lists.{upTo}
-use Rattle.lists.proofs.UpTo.{map-upTo-congr, take-map-upTo}
+use Rattle.lists.proofs.UpTo.{map-upTo-congr}
 use Rattle.refusal.specs.declared.Refusal.{Refusal}
 use Rattle.refusal.specs.Checked.{Checked, accepted, refused, _>>=_}
 use Rattle.packing.proofs.Copies.{length-repeated}
@@ -24,6 +24,7 @@ use Rattle.split.proofs.Heads.{splitHeads-congr}
 use Rattle.split.proofs.Named.{namedSplit-is-split}
 use Rattle.split.proofs.NamedCounts.{length-namedCounts}
 use Rattle.split.proofs.Terms.{layerAt-arrayHeads as layerAt-fiveHeads}
+use Rattle.lists.proofs.UpTo.{take-map-upTo}
 use Rattle.planner.specs.Planning.{blocksAt, placed, splitPlacement, namedPlacement, workNeeded, outputAfter, WorkAfter}
 use Rattle.planner.specs.Answers.{planAnswer}
 use Rattle.planner.specs.Steps.{checkSteps, planPack, orderAnswer}
@@ -71,102 +72,106 @@ sizes-are pack s k b =
     (λ x l. length-repeated (blocksAt (pack .layers) x .rows) (getD counts x 0))
     ∙ map-getD-upTo counts s (length-namedCounts (headsOf (pack .layers)) s k s b)
 
-module _ (n r : ℕ) (mu m blocks : List ℕ) (held : PackHeld n r mu m blocks) (s k b work output : ℕ) where
+-- an order on a pack that passes every check
+pub record Ordered (n r : ℕ) (mu m blocks : List ℕ) (s k b work output : ℕ) : Type 0 where
+  pub held : PackHeld n r mu m blocks
+  pub passed : checkSteps (arrayPack n r mu m blocks) s k b work output ≡ accepted tt
+
+-- the answer of `check_order`
+module _ (n r s k b work output : ℕ) (m : List ℕ) (checked : OrderAnswer)
+    (is : (mu blocks : List ℕ) → checked ≡ orderAnswer (checkSteps (arrayPack n r mu m blocks) s k b work output)) (mu blocks : List ℕ) where
+  pub plan-refused : {e : Refusal} → checked ≡ Refused e → planPack (arrayPack n r mu m blocks) s k b work output ≡ refused e
+  unfolding planPack
+  plan-refused refuses =
+      let steps = orderAnswer-refused (checkSteps (arrayPack n r mu m blocks) s k b work output) (sym refuses ∙ is mu blocks) in
+      rw steps
+
+  pub plan-ordered : PackHeld n r mu m blocks → checked ≡ Good → Ordered n r mu m blocks s k b work output
+  plan-ordered held good =
+      record { held = held; passed = orderAnswer-good (checkSteps (arrayPack n r mu m blocks) s k b work output) (sym good ∙ is mu blocks) }
+
+module _ {n r : ℕ} {mu m blocks : List ℕ} {s k b work output : ℕ} (o : Ordered n r mu m blocks s k b work output) where
   abbrev pack : Pack
   pack = arrayPack n r mu m blocks
 
   abbrev heads : List LayerHead
   heads = headsOf (pack .layers)
 
-  -- the answer of `check_order`
-  module _ (checked : OrderAnswer) (is : (mu blocks : List ℕ) → checked ≡ orderAnswer (checkSteps (arrayPack n r mu m blocks) s k b work output)) where
-    -- it refuses
-    module _ {e : Refusal} (refuses : checked ≡ Refused e) where
-      pub plan-refused : planPack pack s k b work output ≡ refused e
-      unfolding planPack
-      plan-refused =
-          let steps = orderAnswer-refused (checkSteps pack s k b work output) (sym refuses ∙ is mu blocks) in
-          rw steps
+  pub order-fits : Fits pack s k b work output
+  order-fits = steps-fit pack s k b work output (o .passed)
 
-    -- it is good
-    module _ (good : checked ≡ Good) where
-      passed : checkSteps pack s k b work output ≡ accepted tt
-      passed = orderAnswer-good (checkSteps pack s k b work output) (sym good ∙ is mu blocks)
+  plan-accepted : planPack pack s k b work output ≡ accepted (namedPlacement pack s k b)
+  unfolding planPack
+  plan-accepted = rw (o .passed)
 
-      pub order-fits : Fits pack s k b work output
-      order-fits = steps-fit pack s k b work output passed
+  below-five : (x : ℕ) → x < s → x < 5
+  below-five x l = omega (arith, order-fits .order .s-most, o .held .good .limits .r-most)
 
-      plan-accepted : planPack pack s k b work output ≡ accepted (namedPlacement pack s k b)
-      unfolding planPack
-      plan-accepted = rw passed
+  -- what choosing asks
+  pub choose-limits : Limits mu m s k b × (workNeeded s b ≤ work)
+  choose-limits =
+      let order = order-fits .order in
+      let l = o .held .good .limits in (
+        record {
+          s-pos = order .s-least;
+          s-le = omega arith;
+          s-le-k = order .k-least;
+          k-le = omega arith;
+          b-le = order .b-most;
+          mu-le = o .held .mu-most;
+          m-le = o .held .m-most;
+        },
+        order-fits .work-fits,
+      )
 
-      below-five : (x : ℕ) → x < s → x < 5
-      below-five x l = omega (arith, order-fits .order .s-most, held .good .limits .r-most)
+  module _ (counts : List ℕ) (chosen : counts ≡ five (namedCounts (fiveHeads mu m) s k s b)) where
+    agree : (x : ℕ) → x < s → layerAt (fiveHeads mu m) x ≡ layerAt heads x
+    agree x l =
+        layerAt-fiveHeads mu m x (below-five x l)
+        ∙ sym (layerAt-is n r mu m blocks x (omega (arith, order-fits .order .s-most)))
 
-      -- what choosing asks
-      pub choose-limits : Limits mu m s k b × (workNeeded s b ≤ work)
-      choose-limits =
-          let o = order-fits .order in
-          let l = held .good .limits in (
-            record {
-              s-pos = o .s-least;
-              s-le = omega arith;
-              s-le-k = o .k-least;
-              k-le = omega arith;
-              b-le = o .b-most;
-              mu-le = held .mu-most;
-              m-le = held .m-most;
-            },
-            order-fits .work-fits,
-          )
+    counts-are : counts ≡ five (namedCounts heads s k s b)
+    counts-are = chosen ∙ ap five (namedCounts-congr (fiveHeads mu m) heads s k s b agree)
 
-      module _ (counts : List ℕ) (chosen : counts ≡ five (namedCounts (fiveHeads mu m) s k s b)) where
-        agree : (x : ℕ) → x < s → layerAt (fiveHeads mu m) x ≡ layerAt heads x
-        agree x l =
-            layerAt-fiveHeads mu m x (below-five x l)
-            ∙ sym (layerAt-is n r mu m blocks s k b counts x (omega (arith, order-fits .order .s-most)))
+    shares-are : (x : ℕ) → x < s → leastCopies heads counts x ≡ namedSplit heads s k b x
+    unfolding namedSplit
+    shares-are x l =
+        ap (shareOf (layerAt heads x))
+        (ap (λ (c : List ℕ). getD c x 0) counts-are ∙ getD-five (namedCounts heads s k s b) x (below-five x l))
 
-        counts-are : counts ≡ five (namedCounts heads s k s b)
-        counts-are = chosen ∙ ap five (namedCounts-congr (fiveHeads mu m) heads s k s b agree)
+    -- what writing asks
+    pub writable : Writable n r mu m blocks s k b counts
+    writable =
+        record {
+          held = o .held;
+          order = order-fits .order;
+          is-split =
+              split-congr heads s b (namedSplit heads s k b) (leastCopies heads counts) shares-are
+              (namedSplit-is-split heads s k b (order-fits .order .b-most) (order-fits .block));
+        }
 
-        shares-are : (x : ℕ) → x < s → leastCopies heads counts x ≡ namedSplit heads s k b x
-        unfolding namedSplit
-        shares-are x l =
-            ap (shareOf (layerAt heads x))
-            (ap (λ (c : List ℕ). getD c x 0) counts-are ∙ getD-five (namedCounts heads s k s b) x (below-five x l))
+    placement-is : countsPlacement pack s k b counts ≡ namedPlacement pack s k b
+    unfolding namedPlacement
+    placement-is = splitPlacement-congr pack s k b (leastCopies heads counts) (namedSplit heads s k b) shares-are
 
-        -- what writing asks
-        pub writable : Writable pack s k b counts
-        writable =
-            record {
-              good = held .good;
-              order = order-fits .order;
-              is-split =
-                  split-congr heads s b (namedSplit heads s k b) (leastCopies heads counts) shares-are
-                  (namedSplit-is-split heads s k b (order-fits .order .b-most) (order-fits .block));
-            }
+    -- the answer and the slices afterwards
+    pub result-is : (answer : PlanAnswer) → answer ≡ planAnswer (accepted (countsPlacement pack s k b counts)) .answer
+        → _≡_ {A = PlanResult} (record { answer = answer; counts = counts }) (planAnswer (planPack pack s k b work output))
+    result-is answer e =
+        let a : answer ≡ planAnswer (accepted (namedPlacement pack s k b)) .answer =
+        e ∙ ap (λ (p : Placement). planAnswer (accepted p) .answer) placement-is
+        in
+        let c : counts ≡ five (map size (namedPlacement pack s k b .layers)) =
+        counts-are ∙ ap five (sym (sizes-are pack s k b))
+        in
+        rw plan-accepted (λ i. record { answer = a i; counts = c i })
 
-        placement-is : countsPlacement pack s k b counts ≡ namedPlacement pack s k b
-        unfolding namedPlacement
-        placement-is = splitPlacement-congr pack s k b (leastCopies heads counts) (namedSplit heads s k b) shares-are
+    pub output-is : (before after : List ℕ) → after ≡ outputAfter (accepted (countsPlacement pack s k b counts)) before
+        → after ≡ outputAfter (planPack pack s k b work output) before
+    output-is before after e =
+        rw plan-accepted (e ∙ ap (λ (p : Placement). outputAfter (accepted p) before) placement-is)
 
-        -- the answer and the slices afterwards
-        pub result-is : (answer : PlanAnswer) → answer ≡ planAnswer (accepted (countsPlacement pack s k b counts)) .answer
-            → _≡_ {A = PlanResult} (record { answer = answer; counts = counts }) (planAnswer (planPack pack s k b work output))
-        result-is answer e =
-            let a : answer ≡ planAnswer (accepted (namedPlacement pack s k b)) .answer =
-            e ∙ ap (λ (p : Placement). planAnswer (accepted p) .answer) placement-is
-            in
-            let c : counts ≡ five (map size (namedPlacement pack s k b .layers)) =
-            counts-are ∙ ap five (sym (sizes-are pack s k b))
-            in
-            rw plan-accepted (λ i. record { answer = a i; counts = c i })
-
-        pub output-is : (before after : List ℕ) → after ≡ outputAfter (accepted (countsPlacement pack s k b counts)) before
-            → after ≡ outputAfter (planPack pack s k b work output) before
-        output-is before after e =
-            rw plan-accepted (e ∙ ap (λ (p : Placement). outputAfter (accepted p) before) placement-is)
-
-      pub work-is : (before after : List ℕ) → length after ≡ length before → drop (workNeeded s b) after ≡ drop (workNeeded s b) before
-          → WorkAfter (planPack pack s k b work output) s b before after
-      work-is before after same rest = rw plan-accepted (same, rest)
+  pub work-is : (before after : List ℕ)
+      → (length after ≡ length before) × (drop (workNeeded s b) after ≡ drop (workNeeded s b) before)
+      → WorkAfter (planPack pack s k b work output) s b before after
+  work-is before after kept = rw plan-accepted kept

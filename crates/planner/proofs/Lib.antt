@@ -4,7 +4,6 @@ pub mod Planned
 pub mod Putting
 pub mod Layering
 pub mod Lambdas
-pub mod Figuring
 pub mod Arrays
 pub mod Committed
 pub mod Steps

@@ -1,11 +1,11 @@
 -- Writing a split's placement: what the code's arrays and bytes stand for. Assumes nothing.
 use Prim.Native.Nat.{ℕ, _+_, _*_, _≤_, _<_}
-use mathlib.Core.List.{List, _++_, map, flatten}
+use mathlib.Core.List.{List, _∷_, _++_, map, flatten}
 use lib.ListN.{length, getD, drop}
 use Rattle.lists.specs.Lists.{total, upTo}
 use Rattle.number.specs.Numbers.{numberBytes}
 use Rattle.packing.specs.Rows.{rowsAt, repeated}
-use Rattle.layers.specs.Layers.{LayerHead, sizes, headsOf, layersAt}
+use Rattle.layers.specs.Layers.{LayerHead, sizes, headsOf, headNumbers, layersAt}
 use Rattle.layers.specs.Answers.{arrayHeads}
 use Rattle.pack.specs.Pack.{Pack, GoodPack}
 use Rattle.placement.specs.Placement.{Placement}
@@ -49,11 +49,9 @@ leastCopies layers counts x = shareOf (layerAt layers x) (getD counts x 0)
 abbrev pub countsPlacement : Pack → (s k b : ℕ) (counts : List ℕ) → Placement
 countsPlacement pack s k b counts = splitPlacement pack s k b (leastCopies (headsOf (pack .layers)) counts)
 
--- what writing the placement asks of the pack, the order and the counts
-pub record Writable (pack : Pack) (s k b : ℕ) (counts : List ℕ) : Type 0 where
-  pub good : GoodPack pack
-  pub order : OrderLimits pack s k b
-  pub is-split : Split (headsOf (pack .layers)) s b (leastCopies (headsOf (pack .layers)) counts)
+-- the numbers of a placement's head, from the code's arrays
+abbrev pub headList : (n r s k b figure : ℕ) (lambda c : List ℕ) → List ℕ
+headList n r s k b figure lambda c = 2 ∷ n ∷ r ∷ s ∷ k ∷ b ∷ figure ∷ headNumbers (arrayHeads s lambda c)
 
 -- what planning on a pack asks of its numbers and its blocks, as the code has them
 pub record PackHeld (n r : ℕ) (mu m blocks : List ℕ) : Type 0 where
@@ -61,3 +59,10 @@ pub record PackHeld (n r : ℕ) (mu m blocks : List ℕ) : Type 0 where
   pub mu-most : (x : ℕ) → getD mu x 0 ≤ 4_096
   pub m-most : (x : ℕ) → getD m x 0 ≤ 4_096
   pub whole : sizes (arrayHeads r mu m) * r ≤ length blocks
+
+-- what writing a split's placement asks: an order within limits, and counts that are a split
+pub record Writable (n r : ℕ) (mu m blocks : List ℕ) (s k b : ℕ) (counts : List ℕ) : Type 0 where
+  pub held : PackHeld n r mu m blocks
+  pub order : OrderLimits (arrayPack n r mu m blocks) s k b
+  pub is-split : Split (headsOf (arrayPack n r mu m blocks .layers)) s b
+      (leastCopies (headsOf (arrayPack n r mu m blocks .layers)) counts)

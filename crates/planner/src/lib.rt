@@ -12,7 +12,6 @@ ghost use Rattle.planner.specs.Answers.{planAnswer};
 ghost use Rattle.planner.specs.Steps.{planPack};
 ghost use Rattle.planner.specs.Writing.{arrayPack, PackHeld};
 
-mod figure;
 mod order;
 mod write;
 

@@ -6,15 +6,14 @@ ghost use lib.ListN.{length, getD, take, drop};
 ghost use Rattle.lists.specs.Lists.{All};
 ghost use Rattle.refusal.specs.Checked.{accepted};
 ghost use Rattle.number.specs.Numbers.{largestNumber, numberBytes};
-ghost use Rattle.layers.specs.Layers.{headNumbers, sizes};
+ghost use Rattle.layers.specs.Layers.{headNumbers};
 ghost use Rattle.split.specs.Splits.{copiesFor};
 ghost use Rattle.layers.specs.Answers.{arrayHeads};
 ghost use Rattle.planner.specs.Planning.{outputNeeded, outputAfter};
 ghost use Rattle.planner.specs.Answers.{planAnswer};
-ghost use Rattle.planner.specs.Writing.{formsOf, beginning, totalBelow, lambdaOf, rowsBelow};
+ghost use Rattle.planner.specs.Writing.{formsOf, beginning, headList, totalBelow, lambdaOf, rowsBelow};
 ghost use Rattle.planner.specs.Writing.{arrayPack, countsPlacement, Writable};
 use crate::PlanAnswer;
-use crate::figure::figure;
 use number::NumberWritten;
 
 // Writes `v` at place `at`. Returns the place after it.
@@ -81,6 +80,29 @@ fn head_numbers(
     ]
 }
 
+// Writes a placement's head to the start of `out`. Returns how many bytes it takes.
+fn write_head(
+    out: &mut [u8],
+    n: usize,
+    r: usize,
+    s: usize,
+    k: usize,
+    b: usize,
+    figure: usize,
+    lambda: [usize; 5],
+    c: [usize; 5],
+) -> usize
+    requires { ⌜ s ≤ 5 ⌝ }
+    requires { ⌜ All (λ v. v ≤ largestNumber) (headList n r s k b figure lambda c) ⌝ }
+    requires { ⌜ length (formsOf (headList n r s k b figure lambda c)) ≤ length (now out) ⌝ }
+    ensures { λ taken. ⌜ (taken ≡ length (formsOf (headList n r s k b figure lambda c)))
+        × (now (out .exit) ≡ beginning (formsOf (headList n r s k b figure lambda c)) (now (out .entry))) ⌝ }
+{
+    let head = head_numbers(n, r, s, k, b, figure, lambda, c);
+    let numbers = 7 + 2 * s;
+    write_numbers(out, &head[0..numbers])
+}
+
 // The least copies of m blocks that hold c records; none where there is no block.
 fn copies_for(c: usize, m: usize) -> usize
     requires { ⌜ c + m ≤ 65536 ⌝ }
@@ -95,7 +117,9 @@ fn copies_for(c: usize, m: usize) -> usize
 // lambda of each layer below s: its copies × mu.
 fn lambdas(mu: [usize; 5], m: [usize; 5], counts: [usize; 5], s: usize) -> [usize; 5]
     requires { ⌜ s ≤ 5 ⌝ }
-    requires { ⌜ ((x : ℕ) → x < s → (getD counts x 0 ≤ 4096) × (getD m x 0 ≤ 4096) × (getD mu x 0 ≤ 4096)) ⌝ }
+    requires { ⌜ ((x : ℕ) → x < s → getD counts x 0 ≤ 4096) ⌝ }
+    requires { ⌜ ((x : ℕ) → getD m x 0 ≤ 4096) ⌝ }
+    requires { ⌜ ((x : ℕ) → getD mu x 0 ≤ 4096) ⌝ }
     ensures { λ lambda. ⌜ ((x : ℕ) → x < s → getD lambda x 0 ≡ lambdaOf mu m counts x) ⌝ }
 {
     let mut lambda = [0usize; 5];
@@ -151,8 +175,7 @@ pub fn write_placement(
     b: usize,
     counts: [usize; 5],
 ) -> PlanAnswer
-    requires { ⌜ Writable (arrayPack n r mu m (now blocks)) s k b counts ⌝ }
-    requires { ⌜ sizes (arrayHeads r mu m) * r ≤ length (now blocks) ⌝ }
+    requires { ⌜ Writable n r mu m (now blocks) s k b counts ⌝ }
     requires { ⌜ outputNeeded b r ≤ length (now out) ⌝ }
     ensures { λ answer. ⌜ (answer
         ≡ planAnswer (accepted (countsPlacement (arrayPack n r mu m (now (blocks .entry))) s k b counts)) .answer)
@@ -160,13 +183,11 @@ pub fn write_placement(
         ≡ outputAfter (accepted (countsPlacement (arrayPack n r mu m (now (blocks .entry))) s k b counts)) (now (out .entry))) ⌝ }
 {
     let lambda = lambdas(mu, m, counts, s);
-    let survivors = figure(s, k, b, lambda, counts);
-    let head = head_numbers(n, r, s, k, b, survivors, lambda, counts);
-    let numbers = 7 + 2 * s;
-    let at = write_numbers(out, &head[0..numbers]);
+    let figure = placement::figure_of(s, k, b, lambda, counts);
+    let at = write_head(out, n, r, s, k, b, figure, lambda, counts);
     write_layers(&mut out[at..], blocks, r, s, m, counts);
     PlanAnswer::Planned {
         length: at + b * r,
-        figure: survivors,
+        figure,
     }
 }

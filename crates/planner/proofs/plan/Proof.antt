@@ -1,83 +1,75 @@
+-- `planner::plan` meets its contract: a refused pack's refusal is the answer; an accepted pack's blocks are the bytes from
+-- `at` on. Assumes nothing.
 use Prim.Native.Nat.{_<_}
 use native.Mathlib.Omega.{arith}
 use mathlib.Core.Path.{refl}
 use lib.ListN.{length}
 use Rattle.lists.proofs.Alls.{getD-all}
-use Rattle.planner.proofs.Found.{check-refused, check-accepted, plan-of-refused, plan-of-found}
+use Rattle.planner.proofs.Found.{PackFound, check-refused, check-accepted, plan-of-refused, plan-of-found}
 use borrow.Author.Needs.{needs}
 use Rattle.planner.proofs.plan.Statement.{statement}
 use Rattle.planner.proofs.plan.Tie as tie
-use Rattle.planner.proofs.plan.Reads as reads
-use Rattle.planner.proofs.plan.Lts as lts
-use Rattle.pack.proofs.check_pack.Reads as check-pack-reads
-use Rattle.planner.proofs.plan_pack.Reads as plan-pack-reads
-use Rattle.planner.proofs.refuse.Reads as refuse-reads
 
--- src/lib.rt:84:9
 check-pack-requires : tie.Need-check-pack-requires
 check-pack-requires c κs = search needs
 
--- src/lib.rt:89:29
 enum-known-answer : tie.Need-enum-known-answer
 enum-known-answer c = search needs
 
--- src/lib.rt:89:35
 refuse-requires : tie.Need-refuse-requires
 refuse-requires c κs = search needs
 
--- src/lib.rt:90:32
 enum-known-answer-2 : tie.Need-enum-known-answer-2
 enum-known-answer-2 c = search needs
 
--- src/lib.rt:91:23
+-- the pack that the check found
+found : (c : tie.After-answer2)
+    → let checked = c .before .before .before .before .check-pack .result in
+    let given = c .answer2 .given .0 in
+    PackFound (c .before .before .before .before .before .before .before .before .args .pack .now) (given .0) (given .1 .0) (given .1 .1 .0) (checked .mu) (checked .m)
+found c =
+    let bytes = c .before .before .before .before .before .before .before .before .args .pack .now in
+    let checked = c .before .before .before .before .check-pack in
+    check-accepted bytes (checked .result) (checked .ensures)
+    (getD-all (λ byte. byte < 256) 0 bytes (λ i lt. omega (arith, c .before .before .before .before .before .before .before .shared-slice-known .given i)))
+    (c .answer2 .given .1)
+
 sub-plan-pack : tie.Need-sub-plan-pack
-sub-plan-pack c =
-    let s = c .before .before .before .before .before .before .before .before .before in
-    let a = s .args in
-    omega (arith, check-accepted (a .pack .now) (c .before .before .before .before .before .check-pack .result) (c .before .before .before .before .before .check-pack .ensures) (getD-all (λ byte. byte < 256) 0 (a .pack .now) (λ i lt. omega (arith, c .before .before .before .before .before .before .before .before .shared-slice-known .given i))) (c .before .answer2 .given .1) .inside)
+sub-plan-pack c = omega (arith, found (c .before) .inside)
 
--- src/lib.rt:91:23
 part-plan-pack-start : tie.Need-part-plan-pack-start
-part-plan-pack-start c =
-    let s = c .before .before .before .before .before .before .before .before .before in
-    let a = s .args in
-    omega (arith, check-accepted (a .pack .now) (c .before .before .before .before .before .check-pack .result) (c .before .before .before .before .before .check-pack .ensures) (getD-all (λ byte. byte < 256) 0 (a .pack .now) (λ i lt. omega (arith, c .before .before .before .before .before .before .before .before .shared-slice-known .given i))) (c .before .answer2 .given .1) .inside)
+part-plan-pack-start c = omega (arith, found (c .before) .inside)
 
--- src/lib.rt:91:23
 part-plan-pack-end : tie.Need-part-plan-pack-end
 part-plan-pack-end c = search needs
 
--- src/lib.rt:91:13
 plan-pack-requires : tie.Need-plan-pack-requires
-plan-pack-requires c κs =
-    let s = c .before .before .before .before .before .before .before .before .before .before .before .before in
-    let a = s .args in
-    check-accepted (a .pack .now) (c .before .before .before .before .before .before .before .before .check-pack .result) (c .before .before .before .before .before .before .before .before .check-pack .ensures) (getD-all (λ byte. byte < 256) 0 (a .pack .now) (λ i lt. omega (arith, c .before .before .before .before .before .before .before .before .before .before .before .shared-slice-known .given i))) (c .before .before .before .before .answer2 .given .1) .held
+plan-pack-requires c κs = found (c .before .before .before .before) .held
 
--- src/lib.rt:75:1
 returns : tie.Need-returns
 returns c =
-    let s = c .before .before .before .before .before .before .before .before .before .before in
-    let a = s .args in
-    let refused = plan-of-refused (a .pack .now) (a .s) (a .k) (a .b) (length (a .work .now)) (length (a .out .now)) (check-refused (a .pack .now) (c .before .before .before .before .before .before .check-pack .result) (c .before .before .before .before .before .before .check-pack .ensures) (c .before .before .answer .given .1)) in
+    let a = c .before .before .before .before .before .before .before .before .before .before .args in
+    let checked = c .before .before .before .before .before .before .check-pack in
+    let refused =
+    plan-of-refused (a .pack .now) (a .s) (a .k) (a .b) (length (a .work .now)) (length (a .out .now))
+    (check-refused (a .pack .now) (checked .result) (checked .ensures) (c .before .before .answer .given .1))
+    in
     (rw refused (c .refuse .ensures), (rw refused refl, rw refused refl))
 
--- src/lib.rt:75:1
 same-length : tie.Need-same-length
 same-length c = search needs
 
--- src/lib.rt:75:1
 same-length-2 : tie.Need-same-length-2
 same-length-2 c = search needs
 
--- src/lib.rt:75:1
 returns-2 : tie.Need-returns-2
 returns-2 c =
-    let s = c .before .before .before .before .before .before .before .before .before .before .before .before .before .before .before .before .before in
-    let a = s .args in
-    let found = plan-of-found (a .pack .now) (a .s) (a .k) (a .b) (length (a .work .now)) (length (a .out .now)) (check-accepted (a .pack .now) (c .before .before .before .before .before .before .before .before .before .before .before .before .before .check-pack .result) (c .before .before .before .before .before .before .before .before .before .before .before .before .before .check-pack .ensures) (getD-all (λ byte. byte < 256) 0 (a .pack .now) (λ i lt. omega (arith, c .before .before .before .before .before .before .before .before .before .before .before .before .before .before .before .before .shared-slice-known .given i))) (c .before .before .before .before .before .before .before .before .before .answer2 .given .1)) in
+    let a = c .before .before .before .before .before .before .before .before .before .before .before .before .before .before .before .before .before .args in
+    let is =
+    plan-of-found (a .pack .now) (a .s) (a .k) (a .b) (length (a .work .now)) (length (a .out .now)) (found (c .before .before .before .before .before .before .before .before .before))
+    in
     let p = c .before .before .before .before .plan-pack in
-    (rw found (p .ensures .0), (rw found (p .ensures .1 .0), rw found (p .ensures .1 .1)))
+    (rw is (p .ensures .0), (rw is (p .ensures .1 .0), rw is (p .ensures .1 .1)))
 
 pub plan-spec : {M : Type 1} → statement M
 plan-spec =

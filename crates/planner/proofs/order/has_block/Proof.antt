@@ -1,3 +1,4 @@
+-- `planner::order::has_block` meets its contract. The loop's invariant: no layer below x has a block. Assumes nothing.
 use Prim.Native.Nat.{_-_, _≤_}
 use native.Mathlib.Omega.{arith}
 use native.Mathlib.Numerals.{add-one}
@@ -11,8 +12,6 @@ use Rattle.planner.proofs.Steps.{any-upTo-none, any-upTo-next, any-upTo
 use borrow.Author.Needs.{needs}
 use Rattle.planner.proofs.order.has_block.Statement.{statement}
 use Rattle.planner.proofs.order.has_block.Tie as tie
-use Rattle.planner.proofs.order.has_block.Reads as reads
-use Rattle.planner.proofs.order.has_block.Lts as lts
 
 abbrev Inv-loop : tie.InvT-loop
 Inv-loop s m x₀ x = (x ≤ s) × (any (λ y. ltb 0 (getD m y 0)) (upTo x) ≡ false)
@@ -20,34 +19,27 @@ Inv-loop s m x₀ x = (x ≤ s) × (any (λ y. ltb 0 (getD m y 0)) (upTo x) ≡ 
 abbrev μ-loop : tie.MeasureT-loop
 μ-loop s m x₀ x = s - x
 
--- src/order.rt:52:5
 loop-holds : tie.Need-loop-holds Inv-loop μ-loop
 loop-holds c = (omega arith, any-upTo-none (λ y. ltb 0 (getD (c .args .t1) y 0)))
 
--- src/order.rt:53:16
 mul-if1 : tie.Need-mul-if1 Inv-loop μ-loop
 mul-if1 c = search needs
 
--- src/order.rt:53:16
 array-read-if1 : tie.Need-array-read-if1 Inv-loop μ-loop
 array-read-if1 c = search needs
 
--- src/order.rt:54:13
 returns : tie.Need-returns Inv-loop μ-loop
 returns c =
     let m = c .before .before .before .args .t1 in
     let l = c .before .before .loop in
     sym (any-upTo-some (λ y. ltb 0 (getD m y 0)) (l .x) _ (c .before .loop-test .taken) (lt-ltb 0 (getD m (l .x) 0) (c .if1 .taken)))
 
--- src/order.rt:56:9
 add-x : tie.Need-add-x Inv-loop μ-loop
 add-x c = search needs
 
--- src/order.rt:52:5
 loop-less : tie.Need-loop-less Inv-loop μ-loop
 loop-less c = omega arith
 
--- src/order.rt:52:5
 loop-again : tie.Need-loop-again Inv-loop μ-loop
 loop-again c =
     let m = c .before .before .before .args .t1 in
@@ -56,7 +48,6 @@ loop-again c =
       rw (add-one (l .x)) (any-upTo-next (λ y. ltb 0 (getD m y 0)) (l .x) (l .inv .1) (le-ltb 0 (getD m (l .x) 0) (c .if1 .left))),
     )
 
--- src/order.rt:47:1
 returns-2 : tie.Need-returns-2 Inv-loop μ-loop
 returns-2 c =
     let l = c .before .loop in

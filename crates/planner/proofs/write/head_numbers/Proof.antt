@@ -1,53 +1,41 @@
+-- `planner::write::head_numbers` meets its contract. Assumes nothing.
 use mathlib.Core.Path.{refl}
 use Rattle.lists.specs.Lists.{upTo}
 use Rattle.layers.specs.Layers.{headNumbers}
 use borrow.Author.Needs.{needs}
 use Rattle.planner.proofs.write.head_numbers.Statement.{statement}
 use Rattle.planner.proofs.write.head_numbers.Tie as tie
-use Rattle.planner.proofs.write.head_numbers.Reads as reads
-use Rattle.planner.proofs.write.head_numbers.Lts as lts
 
--- src/write.rt:57:35
 array-read-t13 : tie.Need-array-read-t13
 array-read-t13 c = search needs
 
--- src/write.rt:57:46
 array-read-t16 : tie.Need-array-read-t16
 array-read-t16 c = search needs
 
--- src/write.rt:57:52
 array-read-t19 : tie.Need-array-read-t19
 array-read-t19 c = search needs
 
--- src/write.rt:57:63
 array-read-t22 : tie.Need-array-read-t22
 array-read-t22 c = search needs
 
--- src/write.rt:57:69
 array-read-t25 : tie.Need-array-read-t25
 array-read-t25 c = search needs
 
--- src/write.rt:57:80
 array-read-t28 : tie.Need-array-read-t28
 array-read-t28 c = search needs
 
--- src/write.rt:57:86
 array-read-t31 : tie.Need-array-read-t31
 array-read-t31 c = search needs
 
--- src/write.rt:57:97
 array-read-t34 : tie.Need-array-read-t34
 array-read-t34 c = search needs
 
--- src/write.rt:58:9
 array-read-t37 : tie.Need-array-read-t37
 array-read-t37 c = search needs
 
--- src/write.rt:58:20
 array-read-t40 : tie.Need-array-read-t40
 array-read-t40 c = search needs
 
--- src/write.rt:44:1
 returns : tie.Need-returns
 unfolding headNumbers upTo
 returns c = refl

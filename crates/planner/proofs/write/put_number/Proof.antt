@@ -1,6 +1,9 @@
 -- `planner::write::put_number` meets its contract: the number fits, so it is written. Assumes nothing.
 use native.Mathlib.Omega.{arith}
+use mathlib.Core.Path.{_≡_}
+use lib.ListN.{length}
 use borrow.Author.Needs.{needs}
+use Rattle.number.specs.Numbers.{numberBytes}
 use Rattle.planner.proofs.Putting.{put-length, put-not-refused, put-bytes}
 use Rattle.planner.proofs.write.put_number.Statement.{statement}
 use Rattle.planner.proofs.write.put_number.Tie as tie
@@ -29,14 +32,20 @@ same-length c = search needs
 returns : tie.Need-returns
 returns c =
     let s = c .before .before .before .before .before .before .before in
+    let a = s .args in
     let w = c .before .before .before .before .write-number in
-    absurd (put-not-refused (s .args .out .now) (w .last .0) (s .args .at) (s .args .v) (w .result) (s .pre .0) (s .pre .1) (w .ensures) (c .enum-told .given .1))
+    absurd (put-not-refused (a .out .now) (w .last .0) (a .at) (a .v) (w .result) (s .pre .0) (s .pre .1) (w .ensures) (c .enum-told .given .1))
+
+-- what was written
+written : (c : tie.After-known-told) → c .before .written .given .0 .0 ≡ length (numberBytes (c .before .before .before .before .before .before .before .before .args .v))
+written c =
+    let s = c .before .before .before .before .before .before .before .before in
+    let a = s .args in
+    let w = c .before .before .before .before .before .write-number in
+    put-length (a .out .now) (w .last .0) (a .at) (a .v) (w .result) (s .pre .0) (s .pre .1) (w .ensures) (c .before .written .given .1)
 
 add-result : tie.Need-add-result
-add-result c =
-    let s = c .before .before .before .before .before .before .before .before in
-    let w = c .before .before .before .before .before .write-number in
-    omega (arith, s .pre .1, put-length (s .args .out .now) (w .last .0) (s .args .at) (s .args .v) (w .result) (s .pre .0) (s .pre .1) (w .ensures) (c .before .written .given .1))
+add-result c = omega (arith, c .before .before .before .before .before .before .before .before .pre .1, written c)
 
 same-length-2 : tie.Need-same-length-2
 same-length-2 c = search needs
@@ -44,9 +53,9 @@ same-length-2 c = search needs
 returns-2 : tie.Need-returns-2
 returns-2 c =
     let s = c .before .before .before .before .before .before .before .before in
+    let a = s .args in
     let w = c .before .before .before .before .before .write-number in
-    let length = put-length (s .args .out .now) (w .last .0) (s .args .at) (s .args .v) (w .result) (s .pre .0) (s .pre .1) (w .ensures) (c .before .written .given .1) in
-    (omega arith, put-bytes (s .args .out .now) (w .last .0) (s .args .at) (s .args .v) (w .result) (s .pre .0) (s .pre .1) (w .ensures))
+    (omega (arith, written c), put-bytes (a .out .now) (w .last .0) (a .at) (a .v) (w .result) (s .pre .0) (s .pre .1) (w .ensures))
 
 pub put-number-spec : {M : Type 1} → statement M
 put-number-spec =

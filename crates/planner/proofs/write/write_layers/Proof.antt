@@ -1,3 +1,5 @@
+-- `planner::write::write_layers` meets its contract. The loop's invariant: the rows of the layers below x stand at the front,
+-- and what follows them is as it was. Assumes nothing.
 use Prim.Native.Nat.{_+_, _-_, _*_, _≤_}
 use native.Mathlib.Omega.{arith}
 use lib.ListN.{length, getD}
@@ -5,9 +7,6 @@ use Rattle.planner.proofs.Layering.{LayersWritten, layers-none, layer-f
 use borrow.Author.Needs.{needs}
 use Rattle.planner.proofs.write.write_layers.Statement.{statement}
 use Rattle.planner.proofs.write.write_layers.Tie as tie
-use Rattle.planner.proofs.write.write_layers.Reads as reads
-use Rattle.planner.proofs.write.write_layers.Lts as lts
-use Rattle.rows.proofs.write_rows.Reads as write-rows-reads
 
 abbrev Inv-loop : tie.InvT-loop
 Inv-loop out₀ blocks r s m counts to₀ from₀ x₀ out to from x = LayersWritten out₀ blocks r s m counts out to from x
@@ -32,51 +31,39 @@ blocks-in c =
     let t = c .loop-test .taken in
     blocks-within (l .inv) (s .pre .1 .0) (s .pre .1 .1 .0) (s .pre .1 .1 .1) t
 
--- src/write.rt:101:5
 loop-holds : tie.Need-loop-holds Inv-loop μ-loop
 loop-holds c = layers-none _ _ _ _ _ _
 
--- src/write.rt:102:20
 mul-size : tie.Need-mul-size Inv-loop μ-loop
 mul-size c = search needs
 
--- src/write.rt:102:20
 array-read-size : tie.Need-array-read-size Inv-loop μ-loop
 array-read-size c = search needs
 
--- src/write.rt:103:21
 mul-count : tie.Need-mul-count Inv-loop μ-loop
 mul-count c = search needs
 
--- src/write.rt:103:21
 array-read-count : tie.Need-array-read-count Inv-loop μ-loop
 array-read-count c = search needs
 
--- src/write.rt:104:26
 sub-write-rows : tie.Need-sub-write-rows Inv-loop μ-loop
 sub-write-rows c = omega (arith, rows-within c)
 
--- src/write.rt:104:26
 part-write-rows-start : tie.Need-part-write-rows-start Inv-loop μ-loop
 part-write-rows-start c = omega (arith, rows-within c)
 
--- src/write.rt:104:26
 part-write-rows-end : tie.Need-part-write-rows-end Inv-loop μ-loop
 part-write-rows-end c = search needs
 
--- src/write.rt:104:42
 sub-write-rows-2 : tie.Need-sub-write-rows-2 Inv-loop μ-loop
 sub-write-rows-2 c = omega (arith, blocks-in (c .before))
 
--- src/write.rt:104:42
 part-write-rows-start-2 : tie.Need-part-write-rows-start-2 Inv-loop μ-loop
 part-write-rows-start-2 c = omega (arith, blocks-in (c .before))
 
--- src/write.rt:104:42
 part-write-rows-end-2 : tie.Need-part-write-rows-end-2 Inv-loop μ-loop
 part-write-rows-end-2 c = search needs
 
--- src/write.rt:104:9
 write-rows-requires : tie.Need-write-rows-requires Inv-loop μ-loop
 write-rows-requires c κs =
     let turn = c .before .before in
@@ -88,31 +75,24 @@ write-rows-requires c κs =
       (lent-blocks-fit (l .inv) (s .pre .1 .0) (s .pre .1 .1 .0) some t, some (l .x) t),
     )
 
--- src/write.rt:105:15
 mul-to : tie.Need-mul-to Inv-loop μ-loop
 mul-to c = omega (arith, rows-within (c .before .before .before .before .before))
 
--- src/write.rt:105:9
 add-to : tie.Need-add-to Inv-loop μ-loop
 add-to c = omega (arith, rows-within (c .before .before .before .before .before))
 
--- src/write.rt:106:17
 mul-from : tie.Need-mul-from Inv-loop μ-loop
 mul-from c = omega (arith, blocks-in (c .before .before .before .before .before))
 
--- src/write.rt:106:9
 add-from : tie.Need-add-from Inv-loop μ-loop
 add-from c = omega (arith, blocks-in (c .before .before .before .before .before))
 
--- src/write.rt:107:9
 add-x : tie.Need-add-x Inv-loop μ-loop
 add-x c = search needs
 
--- src/write.rt:101:5
 loop-less : tie.Need-loop-less Inv-loop μ-loop
 loop-less c = omega arith
 
--- src/write.rt:101:5
 loop-again : tie.Need-loop-again Inv-loop μ-loop
 loop-again c =
     let turn = c .before .before .before .before .before in
@@ -122,11 +102,9 @@ loop-again c =
     let w = c .before .before .write-rows in
     layers-next (l .inv) (s .pre .1 .0) (s .pre .1 .1 .0) (s .pre .1 .1 .1) t (w .last .0) (w .ensures)
 
--- src/write.rt:91:1
 same-length : tie.Need-same-length Inv-loop μ-loop
 same-length c = c .before .loop .inv .same
 
--- src/write.rt:91:1
 returns : tie.Need-returns Inv-loop μ-loop
 returns c =
     let s = c .before .before .before .before in

@@ -1,3 +1,5 @@
+-- `planner::write::write_numbers` meets its contract. The loop's invariant: the first i numbers stand at the front, and
+-- what follows them is as it was. Assumes nothing.
 use Prim.Native.Nat.{_-_}
 use native.Mathlib.Omega.{arith}
 use lib.ListN.{length}
@@ -6,9 +8,6 @@ use Rattle.planner.proofs.Putting.{NumbersWritten, numbers-none, number
 use borrow.Author.Needs.{needs}
 use Rattle.planner.proofs.write.write_numbers.Statement.{statement}
 use Rattle.planner.proofs.write.write_numbers.Tie as tie
-use Rattle.planner.proofs.write.write_numbers.Reads as reads
-use Rattle.planner.proofs.write.write_numbers.Lts as lts
-use Rattle.planner.proofs.write.put_number.Reads as put-number-reads
 
 abbrev Inv-loop : tie.InvT-loop
 Inv-loop out₀ numbers at₀ i₀ out at i = NumbersWritten out₀ numbers out at i
@@ -16,19 +15,15 @@ Inv-loop out₀ numbers at₀ i₀ out at i = NumbersWritten out₀ numbers out 
 abbrev μ-loop : tie.MeasureT-loop
 μ-loop out₀ numbers at₀ i₀ out at i = length numbers - i
 
--- src/write.rt:36:5
 loop-holds : tie.Need-loop-holds Inv-loop μ-loop
 loop-holds c = numbers-none _ _
 
--- src/write.rt:37:34
 mul-put-number : tie.Need-mul-put-number Inv-loop μ-loop
 mul-put-number c = search needs
 
--- src/write.rt:37:34
 shared-slice-read-put-number : tie.Need-shared-slice-read-put-number Inv-loop μ-loop
 shared-slice-read-put-number c = search needs
 
--- src/write.rt:37:9
 put-number-requires : tie.Need-put-number-requires Inv-loop μ-loop
 put-number-requires c κs =
     let s = c .before .before .before .before .before .before in
@@ -36,15 +31,12 @@ put-number-requires c κs =
     let t = c .before .before .loop-test .taken in
     (all-getD _ (s .args .numbers .now) (l .i) 0 (s .pre .0) t, number-fits (l .inv) t (s .pre .1))
 
--- src/write.rt:38:9
 add-i : tie.Need-add-i Inv-loop μ-loop
 add-i c = search needs
 
--- src/write.rt:36:5
 loop-less : tie.Need-loop-less Inv-loop μ-loop
 loop-less c = search needs
 
--- src/write.rt:36:5
 loop-again : tie.Need-loop-again Inv-loop μ-loop
 loop-again c =
     let s = c .before .before .before .before .before .before .before .before .before in
@@ -53,11 +45,9 @@ loop-again c =
     let p = c .before .before .put-number in
     numbers-next (l .inv) t (s .pre .1) (p .last .0) (p .ensures .1) (p .result) (p .ensures .0) (p .kept .0)
 
--- src/write.rt:28:1
 same-length : tie.Need-same-length Inv-loop μ-loop
 same-length c = c .before .loop .inv .same
 
--- src/write.rt:28:1
 returns : tie.Need-returns Inv-loop μ-loop
 returns c = numbers-all (c .before .loop .inv) (c .loop-test .left)
 
