@@ -1,23 +1,23 @@
 -- What the code's arrays stand for: the pack's layers, and the split with the counts. Assumes nothing.
-use Prim.Native.Nat.{ℕ, zero, suc, _+_, _*_, _≤_, _<_, suc-le-suc}
+use Prim.Native.Nat.{ℕ, zero, suc, _+_, _*_, _≤_, _<_}
 use native.Mathlib.Omega.{arith}
-use native.Mathlib.Nat.{le-refl, le-trans, zero-mul, not-suc-le-zero, le-of-suc-le-suc, mul-le-mul-right}
-use mathlib.Core.Path.{_≡_, refl, sym, _∙_, ap}
-use mathlib.Core.List.{List, [], _∷_, _++_, map, map-map, flatten}
+use native.Mathlib.Nat.{le-trans, zero-mul, not-suc-le-zero, le-of-suc-le-suc, mul-le-mul-right}
+use mathlib.Core.Path.{_≡_, sym, _∙_, ap}
+use mathlib.Core.List.{List, [], _∷_, map, map-map, flatten}
 use lib.ListN.{length, getD, take, drop}
 use lib.Seq.{drop-drop}
 use Rattle.lists.specs.Lists.{All, total, upTo}
 use Rattle.lists.proofs.Alls.{all-map}
 use Rattle.lists.proofs.UpTo.{length-map-upTo, all-upTo, getD-map-upTo, map-upTo-congr}
 use Rattle.packing.specs.Rows.{rowsAt, repeated}
-use Rattle.layers.specs.Layers.{Layer, LayerHead, size, sizes, allRows, headsOf, layersAt}
+use Rattle.layers.specs.Layers.{LayerHead, size, sizes, allRows, headsOf, layersAt}
 use Rattle.layers.proofs.Layouts.{headsOf-layersAt}
 use Rattle.pack.specs.Pack.{Pack}
-use Rattle.split.specs.Splits.{Share, Split, layerAt, copiesFor, shareOf, shareHead, splitHeads}
+use Rattle.split.specs.Splits.{Share, layerAt, copiesFor, shareHead, splitHeads}
 use Rattle.split.proofs.Bounds.{copiesFor-mul-bound-le}
 use Rattle.lists.proofs.UpTo.{take-map-upTo}
 use Rattle.layers.specs.Answers.{arrayHeads}
-use Rattle.planner.specs.Planning.{blocksAt, placed, splitPlacement, OrderLimits}
+use Rattle.planner.specs.Planning.{blocksAt, placed, splitPlacement}
 use Rattle.planner.specs.Writing.{totalBelow, lambdaOf, layerRows, arrayPack, leastCopies, countsPlacement, Writable}
 use Rattle.planner.proofs.Layering.{totalBelow-mono, totalBelow-suc}
 

@@ -1,6 +1,6 @@
 -- Planning on a pack's arrays: the chosen counts are the named split's, and what is written is the named placement.
 -- Assumes nothing.
-use Prim.Native.Nat.{ℕ, _+_, _*_, _≤_, _<_}
+use Prim.Native.Nat.{ℕ, _≤_, _<_}
 use native.Mathlib.Omega.{arith}
 use native.Mathlib.Nat.{le-refl}
 use mathlib.Core.Path.{_≡_, refl, sym, _∙_, ap}
@@ -10,7 +10,7 @@ use lib.Seq.{take-length}
 use Rattle.lists.specs.Lists.{upTo}
 use Rattle.lists.proofs.UpTo.{map-upTo-congr}
 use Rattle.refusal.specs.declared.Refusal.{Refusal}
-use Rattle.refusal.specs.Checked.{Checked, accepted, refused, _>>=_}
+use Rattle.refusal.specs.Checked.{accepted, refused}
 use Rattle.packing.proofs.Copies.{length-repeated}
 use Rattle.layers.specs.Layers.{Layer, LayerHead, size, sizes, headsOf, five}
 use Rattle.pack.specs.Pack.{Pack}

@@ -3,17 +3,16 @@
 use Prim.Native.Nat.{ℕ, zero, suc, _+_, _*_, _-_, _≤_, _<_}
 use native.Mathlib.Omega.{arith}
 use mathlib.Core.Path.{_≡_, refl, sym, _∙_, ap, subst}
-use mathlib.Core.List.{List, [], _∷_, _++_, map, flatten}
+use mathlib.Core.List.{List, [], _∷_, _++_}
 use lib.ListN.{length, getD, take, drop, length-append, length-drop}
 use Rattle.lists.specs.Lists.{All, upTo}
 use Rattle.refusal.specs.Checked.{accepted}
 use Rattle.number.specs.Numbers.{Forms, largestNumber}
-use Rattle.layers.specs.Layers.{headsOf, sizes, headNumbers, allRows}
+use Rattle.layers.specs.Layers.{headsOf, sizes, headNumbers}
 use Rattle.pack.specs.Pack.{Pack}
 use Rattle.placement.specs.Figure.{figureOf}
 use Rattle.placement.specs.Placement.{Placement, GoodPlacement, placementNumbers, placementBytes}
 use Rattle.placement.proofs.Written.{written-file, written-length}
-use Rattle.split.specs.Splits.{layerAt, splitHeads}
 use Rattle.lists.proofs.Writing.{take-drop-rest, write-part}
 use Rattle.rows.proofs.Written.{givenBack}
 use Rattle.layers.specs.Answers.{arrayHeads}

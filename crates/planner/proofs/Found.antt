@@ -1,8 +1,8 @@
 -- The pack that the check of its bytes found, from the numbers of the check's answer. Assumes nothing.
-use Prim.Native.Nat.{ℕ, zero, suc, _+_, _*_, _-_, _≤_, _<_}
+use Prim.Native.Nat.{ℕ, zero, suc, _+_, _*_, _-_, _≤_}
 use native.Mathlib.Omega.{arith}
 use native.Mathlib.Nat.{le-refl}
-use mathlib.Core.Path.{_≡_, refl, sym, _∙_, ap, subst}
+use mathlib.Core.Path.{_≡_, refl, sym, _∙_, ap}
 use mathlib.Core.List.{List, [], _∷_, _++_, map, map-map, flatten, append-nil}
 use lib.ListN.{length, getD, take, drop, replicate, length-append, length-map}
 use lib.Seq.{drop-at}
@@ -18,7 +18,6 @@ use Rattle.layers.proofs.Lengths.{length-flatten-rows, length-allRows}
 use Rattle.layers.proofs.Layouts.{layersAt-flatten}
 use Rattle.pack.specs.Pack.{Pack, PackFile, GoodPack, checkPack}
 use Rattle.pack.specs.Answers.{packChecked}
-use Rattle.pack.specs.declared.PackAnswer.{PackAnswer}
 use Rattle.pack.specs.declared.PackAnswer.the-variants.{Accepted, Refused}
 use Rattle.pack.specs.declared.PackCheck.{PackCheck}
 use Rattle.pack.proofs.Accepted.{pack-accepted-iff}

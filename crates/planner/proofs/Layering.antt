@@ -2,12 +2,12 @@
 use Prim.Native.Nat.{ℕ, zero, suc, _+_, _*_, _-_, _≤_, _<_}
 use native.Mathlib.Omega.{arith}
 use native.Mathlib.Numerals.{add-one}
-use native.Mathlib.Nat.{le-refl, le-trans, mul-le-mul, eq-or-lt-of-le, le-of-suc-le-suc, not-suc-le-zero}
+use native.Mathlib.Nat.{le-refl, mul-le-mul, eq-or-lt-of-le, le-of-suc-le-suc}
 use mathlib.Core.Path.{_≡_, refl, sym, _∙_, ap}
 use mathlib.Core.Logic.{_⊎_, inl, inr}
 use mathlib.Core.List.{List, [], _∷_, _++_, flatten, map, append-nil}
 use lib.ListN.{length, getD, take, drop, length-append, length-drop}
-use Rattle.lists.specs.Lists.{All, total, upTo}
+use Rattle.lists.specs.Lists.{total, upTo}
 use Rattle.lists.proofs.Counts.{flatten-append, total-append}
 use Rattle.lists.proofs.UpTo.{map-upTo-suc}
 use Rattle.packing.specs.Rows.{rowsAt, repeated}
@@ -73,7 +73,13 @@ module _ (r s : ℕ) (blocks m counts : List ℕ) (blocks-fit : totalBelow m s *
   unfolding flatten upTo total
   length-rowsBelow zero h = omega arith
   length-rowsBelow (suc x) h =
-      rw (rowsBelow-suc r blocks m counts x, length-append (rowsBelow r blocks m counts x), length-rowsBelow x (omega arith), length-layerRows x h, totalBelow-suc counts x)
+      rw (
+        rowsBelow-suc r blocks m counts x,
+        length-append (rowsBelow r blocks m counts x),
+        length-rowsBelow x (omega arith),
+        length-layerRows x h,
+        totalBelow-suc counts x,
+      )
       (omega arith)
 
 -- The rows of the layers below x are written. The next layer's begin at byte `to`, and its blocks at byte `from`; from `to`

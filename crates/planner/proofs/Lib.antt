@@ -3,7 +3,7 @@ pub mod Placed
 pub mod Planned
 pub mod Putting
 pub mod Layering
-pub mod Lambdas
+pub mod Filled
 pub mod Arrays
 pub mod Committed
 pub mod Steps

@@ -1,20 +1,19 @@
 -- The steps of planning: when each check refuses, what they accept, and that they make up planning. Assumes nothing.
 use Prim.Native.Nat.{ℕ, zero, suc, _+_, _*_, _≤_, _<_}
-use native.Mathlib.Omega.{arith}
 use native.Mathlib.Numerals.{add-one}
 use native.Mathlib.Nat.{not-suc-le-zero, eq-or-lt-of-le, le-of-suc-le-suc}
 use mathlib.Core.Path.{_≡_, refl, sym, _∙_, ap}
 use mathlib.Core.Logic.{_⊎_, inl, inr}
 use mathlib.Core.Bool.{Bool, true, false, _&&_, _||_, and-eq-true-iff, or-false, or-true, or-assoc}
 use mathlib.Core.List.{List, [], _∷_, _++_, map}
-use lib.ListN.{length, getD, take}
+use lib.ListN.{getD}
 use lib.Dec.{T, leb, ltb}
 use borrow.Author.Tests.{le-leb, lt-leb, lt-ltb, le-ltb, leb-true, ltb-true}
 use Rattle.lists.specs.Lists.{any, upTo}
 use Rattle.lists.proofs.Tests.{T-true}
 use Rattle.refusal.specs.declared.Refusal.{Refusal}
 use Rattle.refusal.specs.declared.Refusal.the-variants.{BadOrder, NoBlock, ShortWork, ShortOutput}
-use Rattle.refusal.specs.Checked.{Checked, accepted, refused, _>>=_, require}
+use Rattle.refusal.specs.Checked.{Checked, accepted, refused, _>>=_}
 use Rattle.refusal.proofs.Checked.{bind-accepted, require-accepted, require-bind-accepted}
 use Rattle.layers.specs.Layers.{Layer, LayerHead, headsOf}
 use Rattle.layers.proofs.Layouts.{headsOf-layersAt}

@@ -1,6 +1,6 @@
 -- Planning in steps: the checks that follow the pack's own, then the placement. Assumes nothing.
 use Prim.Native.Nat.{ℕ}
-use mathlib.Core.List.{List, []}
+use mathlib.Core.List.{[]}
 use lib.Dec.{leb}
 use Rattle.refusal.specs.declared.Refusal.the-variants.{NoBlock, ShortWork, ShortOutput}
 use Rattle.refusal.specs.Refusals.{Outcome, result, refusalOutcome}

@@ -1,5 +1,5 @@
 -- Writing a split's placement: what the code's arrays and bytes stand for. Assumes nothing.
-use Prim.Native.Nat.{ℕ, _+_, _*_, _≤_, _<_}
+use Prim.Native.Nat.{ℕ, _*_, _≤_}
 use mathlib.Core.List.{List, _∷_, _++_, map, flatten}
 use lib.ListN.{length, getD, drop}
 use Rattle.lists.specs.Lists.{total, upTo}

@@ -21,7 +21,8 @@ returns c =
     let a = c .before .before .before .before .before .before .before .before .args in
     let checked = c .before .before .before .before .check-order in
     let refused =
-    plan-refused (a .n) (a .r) (a .s) (a .k) (a .b) (length (a .work .now)) (length (a .out .now)) (a .m) (checked .result) (checked .ensures) (a .mu) (a .blocks .now) (c .before .before .checked .given .1)
+    plan-refused (a .n) (a .r) (a .s) (a .k) (a .b) (length (a .work .now)) (length (a .out .now)) (a .m)
+    (checked .result) (checked .ensures) (a .mu) (a .blocks .now) (c .before .before .checked .given .1)
     in
     (rw refused (c .refuse .ensures), (rw refused refl, rw refused refl))
 
@@ -36,7 +37,8 @@ ordered c =
     let s = c .before .before .before .before .before .before in
     let a = s .args in
     let checked = c .before .before .check-order in
-    plan-ordered (a .n) (a .r) (a .s) (a .k) (a .b) (length (a .work .now)) (length (a .out .now)) (a .m) (checked .result) (checked .ensures) (a .mu) (a .blocks .now) (s .pre) (c .enum-told .given .1)
+    plan-ordered (a .n) (a .r) (a .s) (a .k) (a .b) (length (a .work .now)) (length (a .out .now)) (a .m)
+    (checked .result) (checked .ensures) (a .mu) (a .blocks .now) (s .pre) (c .enum-told .given .1)
 
 choose-counts-requires : tie.Need-choose-counts-requires
 choose-counts-requires c κs = choose-limits (ordered (c .before))

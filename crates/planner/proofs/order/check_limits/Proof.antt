@@ -1,7 +1,7 @@
 -- `planner::order::check_limits` meets its contract: each return is a case of `checkOrder`. Assumes nothing.
 use Prim.Native.Nat.{ℕ}
 use native.Mathlib.Omega.{arith}
-use mathlib.Core.Path.{_≡_, sym, ap}
+use mathlib.Core.Path.{sym, ap}
 use mathlib.Core.List.{List}
 use Rattle.layers.specs.Layers.{Layer}
 use Rattle.pack.specs.Pack.{Pack}

@@ -51,7 +51,8 @@ returns-2 c =
     let a = c .before .before .before .before .before .args in
     let l = c .before .before .before .before .check-limits in
     let h = c .before .has-block in
-    no-block (a .n) (a .r) (a .s) (a .k) (a .b) (a .work) (a .output) (a .m) (l .result) (l .ensures) (c .before .before .enum-told .given .1) (h .ensures) (not-true (h .result) (c .if1 .taken))
+    no-block (a .n) (a .r) (a .s) (a .k) (a .b) (a .work) (a .output) (a .m) (l .result) (l .ensures) (c .before .before .enum-told .given .1) (h .ensures)
+    (not-true (h .result) (c .if1 .taken))
 
 add-entries : tie.Need-add-entries
 add-entries c = omega (arith, limits (c .before .before))

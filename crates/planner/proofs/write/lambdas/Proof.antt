@@ -6,7 +6,7 @@ use mathlib.Core.Path.{_≡_, refl, ap}
 use lib.ListN.{getD}
 use Rattle.split.proofs.Bounds.{copiesFor-mul-bound-le}
 use Rattle.planner.specs.Writing.{lambdaOf}
-use Rattle.planner.proofs.Lambdas.{FilledTo, filled-next}
+use Rattle.planner.proofs.Filled.{FilledTo, filled-next}
 use borrow.Author.Needs.{needs}
 use Rattle.planner.proofs.write.lambdas.Statement.{statement}
 use Rattle.planner.proofs.write.lambdas.Tie as tie

@@ -1,12 +1,10 @@
 -- `planner::write::write_head` meets its contract: the first numbers of the head's array are written. Assumes nothing.
 use mathlib.Core.Path.{_≡_, _∙_, ap}
 use mathlib.Core.List.{List}
-use Prim.Native.Nat.{ℕ, _+_, _*_, _-_, _≤_}
-use lib.ListN.{length, take, drop}
+use Prim.Native.Nat.{ℕ, _+_, _*_, _-_}
+use lib.ListN.{take, drop}
 use borrow.Author.Needs.{needs}
-use Rattle.lists.specs.Lists.{All}
-use Rattle.number.specs.Numbers.{largestNumber}
-use Rattle.planner.specs.Writing.{formsOf, beginning, headList}
+use Rattle.planner.specs.Writing.{headList}
 use Rattle.planner.proofs.Committed.{head-taken}
 use Rattle.planner.proofs.write.write_head.Statement.{statement}
 use Rattle.planner.proofs.write.write_head.Tie as tie

@@ -16,7 +16,9 @@ abbrev μ-loop : tie.MeasureT-loop
 
 -- in a turn the layer's rows and blocks lie within the slices
 rows-within : (c : tie.In-loop Inv-loop μ-loop)
-    → c .before .loop .to + getD (c .before .before .before .before .args .t6) (c .before .loop .x) 0 * c .before .before .before .before .args .r ≤ length (c .before .loop .out)
+    → let a = c .before .before .before .before .args in
+    let l = c .before .loop in
+    l .to + getD (a .t6) (l .x) 0 * a .r ≤ length (l .out)
 rows-within c =
     let s = c .before .before .before .before in
     let l = c .before .loop in
@@ -24,7 +26,9 @@ rows-within c =
     layer-fits (l .inv) (s .pre .1 .0) (s .pre .1 .1 .0) (s .pre .1 .1 .1) t
 
 blocks-in : (c : tie.In-loop Inv-loop μ-loop)
-    → c .before .loop .from + getD (c .before .before .before .before .args .t5) (c .before .loop .x) 0 * c .before .before .before .before .args .r ≤ length (c .before .before .before .before .args .blocks .now)
+    → let a = c .before .before .before .before .args in
+    let l = c .before .loop in
+    l .from + getD (a .t5) (l .x) 0 * a .r ≤ length (a .blocks .now)
 blocks-in c =
     let s = c .before .before .before .before in
     let l = c .before .loop in

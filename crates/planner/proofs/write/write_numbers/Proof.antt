@@ -1,7 +1,6 @@
 -- `planner::write::write_numbers` meets its contract. The loop's invariant: the first i numbers stand at the front, and
 -- what follows them is as it was. Assumes nothing.
 use Prim.Native.Nat.{_-_}
-use native.Mathlib.Omega.{arith}
 use lib.ListN.{length}
 use Rattle.lists.proofs.Alls.{all-getD}
 use Rattle.planner.proofs.Putting.{NumbersWritten, numbers-none, number-fits, numbers-next, numbers-all}

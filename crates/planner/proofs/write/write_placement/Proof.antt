@@ -23,14 +23,21 @@ figure-of-requires c κs =
 write-head-requires : tie.Need-write-head-requires
 write-head-requires c κs =
     let s = c .before .before .before .before .before in
-    head-limits (s .pre .0) (c .before .before .lambdas .result) (c .before .before .lambdas .ensures) (c .before .figure-of .result) (c .before .figure-of .ensures) (s .args .out .now) (s .pre .1)
+    let lambda = c .before .before .lambdas in
+    let figure = c .before .figure-of in
+    head-limits (s .pre .0) (lambda .result) (lambda .ensures) (figure .result) (figure .ensures)
+    (s .args .out .now) (s .pre .1)
 
 -- after the head there is room for the rows
-room : (c : tie.After-write-head) → let a = c .before .before .before .before .before .before .args in c .write-head .result + a .b * a .r ≤ length (c .write-head .last .0)
+room : (c : tie.After-write-head)
+    → let a = c .before .before .before .before .before .before .args in c .write-head .result + a .b * a .r ≤ length (c .write-head .last .0)
 room c =
     let s = c .before .before .before .before .before .before in
-    let w = c .write-head in
-    rows-fit (s .pre .0) (c .before .before .before .lambdas .result) (c .before .before .before .lambdas .ensures) (c .before .before .figure-of .result) (c .before .before .figure-of .ensures) (s .args .out .now) (s .pre .1) (w .last .0) (w .result) (w .ensures)
+    let lambda = c .before .before .before .lambdas in
+    let figure = c .before .before .figure-of in
+    let head = c .write-head in
+    rows-fit (s .pre .0) (lambda .result) (lambda .ensures) (figure .result) (figure .ensures)
+    (s .args .out .now) (s .pre .1) (head .last .0) (head .result) (head .ensures)
 
 sub-write-layers : tie.Need-sub-write-layers
 sub-write-layers c = omega (arith, room (c .before .before))
@@ -44,8 +51,11 @@ part-write-layers-end c = search needs
 write-layers-requires : tie.Need-write-layers-requires
 write-layers-requires c κs =
     let s = c .before .before .before .before .before .before .before .before .before in
-    let w = c .before .before .before .write-head in
-    rows-limits (s .pre .0) (c .before .before .before .before .before .before .lambdas .result) (c .before .before .before .before .before .before .lambdas .ensures) (c .before .before .before .before .before .figure-of .result) (c .before .before .before .before .before .figure-of .ensures) (s .args .out .now) (s .pre .1) (w .last .0) (w .result) (w .ensures)
+    let lambda = c .before .before .before .before .before .before .lambdas in
+    let figure = c .before .before .before .before .before .figure-of in
+    let head = c .before .before .before .write-head in
+    rows-limits (s .pre .0) (lambda .result) (lambda .ensures) (figure .result) (figure .ensures)
+    (s .args .out .now) (s .pre .1) (head .last .0) (head .result) (head .ensures)
 
 mul-t18 : tie.Need-mul-t18
 mul-t18 c = search needs
@@ -59,10 +69,14 @@ same-length c = search needs
 returns : tie.Need-returns
 returns c =
     let s = c .before .before .before .before .before .before .before .before .before .before .before .before in
-    let w = c .before .before .before .before .before .before .write-head in
-    let l = c .before .before .write-layers in (
-      answer-is (s .pre .0) (c .before .before .before .before .before .before .before .before .before .lambdas .result) (c .before .before .before .before .before .before .before .before .before .lambdas .ensures) (c .before .before .before .before .before .before .before .before .figure-of .result) (c .before .before .before .before .before .before .before .before .figure-of .ensures) (s .args .out .now) (s .pre .1) (w .last .0) (w .result) (w .ensures) (l .last .0) (l .ensures),
-      output-is (s .pre .0) (c .before .before .before .before .before .before .before .before .before .lambdas .result) (c .before .before .before .before .before .before .before .before .before .lambdas .ensures) (c .before .before .before .before .before .before .before .before .figure-of .result) (c .before .before .before .before .before .before .before .before .figure-of .ensures) (s .args .out .now) (s .pre .1) (w .last .0) (w .result) (w .ensures) (l .last .0) (l .ensures),
+    let lambda = c .before .before .before .before .before .before .before .before .before .lambdas in
+    let figure = c .before .before .before .before .before .before .before .before .figure-of in
+    let head = c .before .before .before .before .before .before .write-head in
+    let rows = c .before .before .write-layers in (
+      answer-is (s .pre .0) (lambda .result) (lambda .ensures) (figure .result) (figure .ensures)
+          (s .args .out .now) (s .pre .1) (head .last .0) (head .result) (head .ensures) (rows .last .0) (rows .ensures),
+      output-is (s .pre .0) (lambda .result) (lambda .ensures) (figure .result) (figure .ensures)
+          (s .args .out .now) (s .pre .1) (head .last .0) (head .result) (head .ensures) (rows .last .0) (rows .ensures),
     )
 
 pub write-placement-spec : {M : Type 1} → statement M
