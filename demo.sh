@@ -1,8 +1,7 @@
 #!/bin/sh
 # Builds `check` and `plan` into target/demo, plans nine records on the seven cabinets of document 01, and checks the result.
 cd "$(dirname "$0")" || exit 2
-rt check check_main plan_main >target-demo.log 2>&1 || { cat target-demo.log; rm -f target-demo.log; exit 1; }
-rm -f target-demo.log
+said=$(rt check check_main plan_main 2>&1) || { printf '%s\n' "$said"; exit 1; }
 mkdir -p target/demo
 cp target/bin/check_main target/demo/check
 cp target/bin/plan_main target/demo/plan
