@@ -1,0 +1,2 @@
+-- The laws that the proofs of `vectors_test` cite. Assumes nothing.
+pub mod Fits
