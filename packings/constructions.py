@@ -156,6 +156,14 @@ def mathieu_11():
     return ordered(block[:-1] for block in moebius_images(GF11, squares, special=True) if block[-1] == 11)
 
 
+def mathieu_23():
+    """S(4,5,23): the blocks through a point of an S(5,6,24), which are the images of three blocks under PSL(2,23):
+    R. H. F. Denniston (1976); the three by the method of E. S. Kramer and D. M. Mesner (1976); [HCD] II.5."""
+    bases = ((0, 1, 2, 3, 4, 10), (0, 1, 2, 3, 7, 18), (0, 1, 2, 4, 7, 8))
+    blocks = [block for base in bases for block in moebius_images(GF23, base, special=True)]
+    return ordered(block[:-1] for block in blocks if block[-1] == 23)
+
+
 def difference_family(n, bases):
     """The translates of the base blocks modulo n: [HCD] II.18 and VI.16."""
     return ordered(tuple((v + t) % n for v in base) for base in bases for t in range(n))
@@ -189,6 +197,8 @@ def catalogue():
     subfield = [a for a in range(16) if GF16.multiply(GF16.multiply(a, a), GF16.multiply(a, a)) == a]
     yield "inversive17", spherical.__doc__, 17, 5, 2, spherical(GF16, subfield)
     yield "mathieu11", mathieu_11.__doc__, 11, 5, 3, mathieu_11()
+    yield "mathieu23", mathieu_23.__doc__, 23, 5, 3, mathieu_23()
     for n, bases in ((13, [(0, 1, 3, 9)]), (37, [(0, 1, 3, 24), (0, 4, 26, 32), (0, 10, 18, 30)]),
-                     (21, [(0, 1, 4, 14, 16)]), (41, [(0, 1, 4, 11, 29), (0, 2, 8, 17, 22)])):
+                     (21, [(0, 1, 4, 14, 16)]), (41, [(0, 1, 4, 11, 29), (0, 2, 8, 17, 22)]),
+                     (65, [(0, 1, 3, 31, 45), (0, 4, 10, 19, 57), (0, 5, 16, 41, 48), (0, 13, 26, 39, 52)])):
         yield f"df{n}_{len(bases[0])}", difference_family.__doc__, n, len(bases[0]), 1, difference_family(n, bases)
