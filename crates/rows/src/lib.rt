@@ -1,4 +1,5 @@
 // Rows in bytes: their order, writing blocks as rows, and how many rows hold a node.
+use packing::Node;
 use packing::Record;
 use packing::RowFound;
 ghost use mathlib.Core.Path.{_≡_};
@@ -10,6 +11,14 @@ ghost use Rattle.lists.specs.Lists.{All, count, largest, upTo};
 ghost use Rattle.packing.specs.Rows.{inOrder, rowsAt, firstBad, repeated, member};
 ghost use Rattle.packing.specs.Answers.{rowFound};
 
+// The node's number, as a count.
+fn number_of(node: Node) -> usize
+    ensures { λ v. ⌜ v ≡ node .0 ⌝ }
+{
+    let v = node.0;
+    v as usize
+}
+
 // Whether the row's nodes are strictly ascending and all below n.
 pub fn row_in_order(row: &[u8], n: usize) -> bool
     ensures { λ b. ⌜ b ≡ inOrder n (now (row .entry)) ⌝ }
@@ -17,7 +26,7 @@ pub fn row_in_order(row: &[u8], n: usize) -> bool
     let mut least: usize = 0;
     let mut i: usize = 0;
     while i < row.len() {
-        let node = row[i] as usize;
+        let node = number_of(Node(row[i]));
         if node < least {
             return false;
         }

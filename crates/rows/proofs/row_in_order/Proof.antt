@@ -1,8 +1,8 @@
 -- `rows::row_in_order` meets its contract. The loop's invariant: the row's order is that of the nodes not yet looked at,
 -- from the least node that may come next. Assumes nothing.
-use Prim.Native.Nat.{_≤_, _-_}
+use Prim.Native.Nat.{ℕ, _≤_, _<_, _-_}
 use native.Mathlib.Omega.{arith}
-use mathlib.Core.Path.{_≡_, refl, sym, _∙_}
+use mathlib.Core.Path.{_≡_, refl, sym, _∙_, subst}
 use lib.ListN.{length, drop}
 use borrow.Author.Needs.{needs}
 use Rattle.packing.specs.Rows.{inOrder}
@@ -19,24 +19,27 @@ abbrev μ-loop : tie.MeasureT-loop
 loop-holds : tie.Need-loop-holds Inv-loop μ-loop
 loop-holds c = (search needs, refl)
 
-shared-slice-read-node : tie.Need-shared-slice-read-node Inv-loop μ-loop
-shared-slice-read-node c = omega arith
+shared-slice-read-t9 : tie.Need-shared-slice-read-t9 Inv-loop μ-loop
+shared-slice-read-t9 c = omega arith
 
-cast-node : tie.Need-cast-node Inv-loop μ-loop
-cast-node c = omega (arith, c .shared-slice-known .given (c .before .before .loop .i))
+number-of-requires : tie.Need-number-of-requires Inv-loop μ-loop
+number-of-requires c κs = search needs
 
 returns : tie.Need-returns Inv-loop μ-loop
 returns c =
-    let a = c .before .before .before .before .args in
-    let l = c .before .before .before .loop in
-    sym (l .inv .1 ∙ order-of-low (a .row .now) (a .n) (l .least) (l .i) (c .before .before .loop-test .taken) (c .if1 .taken))
+    let a = c .before .before .before .before .before .before .args in
+    let l = c .before .before .before .before .loop in
+    let turn = c .before .before .before .loop-test .taken in
+    let low = subst (λ (v : ℕ). v < l .least) (c .before .number-of .ensures) (c .if1 .taken) in
+    sym (l .inv .1 ∙ order-of-low (a .row .now) (a .n) (l .least) (l .i) turn low)
 
 returns-2 : tie.Need-returns-2 Inv-loop μ-loop
 returns-2 c =
-    let a = c .before .before .before .before .before .args in
-    let l = c .before .before .before .before .loop in
-    let turn = c .before .before .before .loop-test .taken in
-    sym (l .inv .1 ∙ order-of-high (a .row .now) (a .n) (l .least) (l .i) turn (c .if2 .taken))
+    let a = c .before .before .before .before .before .before .before .args in
+    let l = c .before .before .before .before .before .loop in
+    let turn = c .before .before .before .before .loop-test .taken in
+    let high = subst (λ (v : ℕ). a .n ≤ v) (c .before .before .number-of .ensures) (c .if2 .taken) in
+    sym (l .inv .1 ∙ order-of-high (a .row .now) (a .n) (l .least) (l .i) turn high)
 
 add-least : tie.Need-add-least Inv-loop μ-loop
 add-least c = omega arith
@@ -49,17 +52,19 @@ loop-less c = omega arith
 
 loop-again : tie.Need-loop-again Inv-loop μ-loop
 loop-again c =
-    let a = c .before .before .before .before .before .args in
-    let l = c .before .before .before .before .loop in
-    let turn = c .before .before .before .loop-test .taken in (
+    let a = c .before .before .before .before .before .before .before .args in
+    let l = c .before .before .before .before .before .loop in
+    let turn = c .before .before .before .before .loop-test .taken in
+    let node = c .before .before .number-of .ensures in
+    let low = subst (λ (v : ℕ). l .least ≤ v) node (c .before .if1 .left) in
+    let high = subst (λ (v : ℕ). v < a .n) node (c .if2 .left) in (
       omega arith,
-      l .inv .1
-          ∙ order-of-next (a .row .now) (a .n) (l .least) (l .i) turn (c .before .if1 .left) (c .if2 .left),
+      rw node (l .inv .1 ∙ order-of-next (a .row .now) (a .n) (l .least) (l .i) turn low high),
     )
 
 returns-3 : tie.Need-returns-3 Inv-loop μ-loop
 returns-3 c =
-    let a = c .before .before .args in
+    let a = c .before .before .before .args in
     let l = c .before .loop in
     sym (l .inv .1 ∙ order-of-end (a .row .now) (a .n) (l .least) (l .i) (c .loop-test .left))
 
@@ -70,8 +75,8 @@ row-in-order-spec =
     Inv-loop
     μ-loop
     loop-holds
-    shared-slice-read-node
-    cast-node
+    shared-slice-read-t9
+    number-of-requires
     returns
     returns-2
     add-least
