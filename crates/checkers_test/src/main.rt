@@ -20,7 +20,7 @@ fn refused(e: Refusal) -> Verdict {
 }
 
 fn of_pack(file: &[u8]) -> Verdict {
-    let check = pack::check_pack(file);
+    let check = pack_code::check_pack(file);
     let answer = check.answer;
     match answer {
         PackAnswer::Accepted { n: _, r: _, at: _ } => Verdict {
@@ -32,7 +32,7 @@ fn of_pack(file: &[u8]) -> Verdict {
 }
 
 fn of_placement(file: &[u8]) -> Verdict {
-    let check = placement::check_placement(file);
+    let check = placement_code::check_placement(file);
     let answer = check.answer;
     match answer {
         PlacementAnswer::Accepted {

@@ -8,10 +8,7 @@ pub mod RowsChecked
 pub mod Files
 pub mod Prefix
 pub mod Readings
-pub mod ReadLoop
 pub mod Arrays
-pub mod CrowdLoop
-pub mod RowsAnswers
 pub mod Stages
 pub mod Worked
 pub mod FirstCrowded

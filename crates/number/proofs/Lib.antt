@@ -1,7 +1,6 @@
 pub mod Groups
 pub mod ReadGroups
 pub mod Reading
-pub mod ReadLoop
 pub mod Writing
 pub mod Within
 pub mod Worked

@@ -60,7 +60,7 @@ fn read(bytes: &[u8], at: usize) {
     put_bytes(bytes);
     io::write_all(1, b" at");
     put(at);
-    put_read(number::read_number(bytes, at));
+    put_read(number_reader::read_number(bytes, at));
 }
 
 // The line of a reading within limits.
@@ -72,7 +72,7 @@ fn within(bytes: &[u8], at: usize, lo: usize, hi: usize) {
     put_bytes(bytes);
     io::write_all(1, b" at");
     put(at);
-    put_read(number::read_within(bytes, at, lo, hi));
+    put_read(number_reader::read_within(bytes, at, lo, hi));
 }
 
 // The line of a writing into `out`, with the bytes of `out` afterwards.
@@ -81,7 +81,7 @@ fn write_to(out: &mut [u8], v: usize) {
     put(v);
     io::write_all(1, b" room");
     put(out.len());
-    let r = number::write_number(out, v);
+    let r = number_writer::write_number(out, v);
     put_written(r);
     io::write_all(1, b" leaves");
     put_bytes(out);

@@ -1,4 +1,3 @@
 pub mod Accepted
 pub mod Prefix
-pub mod Stages
 pub mod Worked

@@ -2,6 +2,4 @@ pub mod Written
 pub mod Survivors
 pub mod Accepted
 pub mod Prefix
-pub mod Losses
-pub mod Stages
 pub mod Worked

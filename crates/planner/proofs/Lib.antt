@@ -1,11 +1,7 @@
 pub mod Worked
 pub mod Placed
 pub mod Planned
-pub mod Putting
 pub mod Layering
-pub mod Filled
 pub mod Arrays
 pub mod Committed
 pub mod Steps
-pub mod Chosen
-pub mod Found

@@ -23,8 +23,8 @@ use Rattle.layers.specs.Answers.{arrayHeads}
 use Rattle.planner.specs.Planning.{OrderLimits, checkOrder, namedPlacement, splitPlacement, planned, plan, workNeeded, outputNeeded}
 use Rattle.planner.specs.Steps.{checkSteps, planPack, orderAnswer}
 use Rattle.planner.specs.Writing.{arrayPack}
-use Rattle.planner.specs.declared.order.OrderAnswer.{OrderAnswer}
-use Rattle.planner.specs.declared.order.OrderAnswer.the-variants.{Good, Refused}
+use Rattle.planner.specs.declared.OrderAnswer.{OrderAnswer}
+use Rattle.planner.specs.declared.OrderAnswer.the-variants.{Good, Refused}
 use Rattle.planner.proofs.Arrays.{take-arrayHeads}
 
 -- checks may be grouped in any way

@@ -10,8 +10,8 @@ use Rattle.pack.specs.Pack.{Pack}
 use Rattle.placement.specs.Placement.{Placement}
 use Rattle.split.specs.Splits.{hasBlock}
 use Rattle.planner.specs.Planning.{checkOrder, namedPlacement, workNeeded, outputNeeded}
-use Rattle.planner.specs.declared.order.OrderAnswer.{OrderAnswer}
-use Rattle.planner.specs.declared.order.OrderAnswer.the-variants.{Good, Refused}
+use Rattle.planner.specs.declared.OrderAnswer.{OrderAnswer}
+use Rattle.planner.specs.declared.OrderAnswer.the-variants.{Good, Refused}
 
 -- "then 12, 9, 10, 11": an order on an accepted pack, with slices of these lengths
 unfoldable pub checkSteps : Pack → (s k b work output : ℕ) → Checked Unit

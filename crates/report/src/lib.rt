@@ -107,7 +107,7 @@ pub fn check_reply(input: &[u8], out: &mut [u8]) -> usize
     requires { ⌜ 200 ≤ length (now out) ⌝ }
     ensures { λ r. ⌜ Replied (checkLine (now (input .entry))) r (now (out .entry)) (now (out .exit)) ⌝ }
 {
-    let check = placement::check_placement(input);
+    let check = placement_code::check_placement(input);
     let answer = check.answer;
     match answer {
         PlacementAnswer::Refused(e) => refused_line(out, e),
@@ -120,7 +120,7 @@ pub fn check_reply(input: &[u8], out: &mut [u8]) -> usize
             figure,
             at,
         } => {
-            let most = rows::most_load(&input[at..], b, r, n);
+            let most = rows_load::most_load(&input[at..], b, r, n);
             let mean = mean_load(b, r, n);
             accepted_line(out, figure, b, k, n, most, mean)
         }
@@ -139,7 +139,7 @@ fn planned_reply(
     requires { ⌜ (20_485 ≤ length (now work)) × (20_544 ≤ length (now out)) ⌝ }
     ensures { λ r. ⌜ Replied (plannedReply (now (pack .entry)) s k b) r (now (out .entry)) (now (out .exit)) ⌝ }
 {
-    let result = planner::plan(pack, s, k, b, work, out);
+    let result = planner_code::plan(pack, s, k, b, work, out);
     let answer = result.answer;
     match answer {
         PlanAnswer::Planned { length, figure: _ } => length,
@@ -152,13 +152,13 @@ pub fn plan_reply(input: &[u8], work: &mut [u16], out: &mut [u8]) -> usize
     requires { ⌜ (20_485 ≤ length (now work)) × (20_544 ≤ length (now out)) ⌝ }
     ensures { λ r. ⌜ Replied (planReply (now (input .entry))) r (now (out .entry)) (now (out .exit)) ⌝ }
 {
-    let NumberRead::Value(s, k_at) = number::read_number(input, 0) else {
+    let NumberRead::Value(s, k_at) = number_reader::read_number(input, 0) else {
         return refused_line(out, Refusal::BadOrder(0));
     };
-    let NumberRead::Value(k, b_at) = number::read_number(input, k_at) else {
+    let NumberRead::Value(k, b_at) = number_reader::read_number(input, k_at) else {
         return refused_line(out, Refusal::BadOrder(1));
     };
-    let NumberRead::Value(b, at) = number::read_number(input, b_at) else {
+    let NumberRead::Value(b, at) = number_reader::read_number(input, b_at) else {
         return refused_line(out, Refusal::BadOrder(2));
     };
     planned_reply(&input[at..], s, k, b, work, out)

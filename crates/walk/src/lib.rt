@@ -83,7 +83,7 @@ fn opened_of(answer: PlacementAnswer) -> WalkOpened
 pub fn opened(bytes: &[u8]) -> WalkOpened
     ensures { λ o. ⌜ o ≡ walkOpened (openWalk (now (bytes .entry))) ⌝ }
 {
-    let checked = placement::check_placement(bytes);
+    let checked = placement_code::check_placement(bytes);
     let answer = checked.answer;
     opened_of(answer)
 }

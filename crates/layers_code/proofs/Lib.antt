@@ -1,0 +1,2 @@
+pub mod CrowdLoop
+pub mod RowsAnswers

@@ -1,0 +1,86 @@
+-- `rows_order::row_in_order` meets its contract. The loop's invariant: the row's order is that of the nodes not yet looked at,
+-- from the least node that may come next. Assumes nothing.
+use Prim.Native.Nat.{ℕ, _≤_, _<_, _-_}
+use native.Mathlib.Omega.{arith}
+use mathlib.Core.Path.{_≡_, refl, sym, _∙_, subst}
+use lib.ListN.{length, drop}
+use borrow.Author.Needs.{needs}
+use Rattle.packing.specs.Rows.{inOrder}
+use Rattle.rows_order.proofs.Order.{orderFrom, order-of-low, order-of-high, order-of-next, order-of-end}
+use Rattle.rows_order.proofs.row_in_order.Statement.{statement}
+use Rattle.rows_order.proofs.row_in_order.Tie as tie
+
+abbrev Inv-loop : tie.InvT-loop
+Inv-loop row n least₀ i₀ least i = (i ≤ length row) × (inOrder n row ≡ orderFrom n least (drop i row))
+
+abbrev μ-loop : tie.MeasureT-loop
+μ-loop row n least₀ i₀ least i = length row - i
+
+loop-holds : tie.Need-loop-holds Inv-loop μ-loop
+loop-holds c = (search needs, refl)
+
+shared-slice-read-t9 : tie.Need-shared-slice-read-t9 Inv-loop μ-loop
+shared-slice-read-t9 c = omega arith
+
+number-of-requires : tie.Need-number-of-requires Inv-loop μ-loop
+number-of-requires c κs = search needs
+
+returns : tie.Need-returns Inv-loop μ-loop
+returns c =
+    let a = c .before .before .before .before .before .before .args in
+    let l = c .before .before .before .before .loop in
+    let turn = c .before .before .before .loop-test .taken in
+    let low = subst (λ (v : ℕ). v < l .least) (c .before .number-of .ensures) (c .if1 .taken) in
+    sym (l .inv .1 ∙ order-of-low (a .row .now) (a .n) (l .least) (l .i) turn low)
+
+returns-2 : tie.Need-returns-2 Inv-loop μ-loop
+returns-2 c =
+    let a = c .before .before .before .before .before .before .before .args in
+    let l = c .before .before .before .before .before .loop in
+    let turn = c .before .before .before .before .loop-test .taken in
+    let high = subst (λ (v : ℕ). a .n ≤ v) (c .before .before .number-of .ensures) (c .if2 .taken) in
+    sym (l .inv .1 ∙ order-of-high (a .row .now) (a .n) (l .least) (l .i) turn high)
+
+add-least : tie.Need-add-least Inv-loop μ-loop
+add-least c = omega arith
+
+add-i : tie.Need-add-i Inv-loop μ-loop
+add-i c = omega arith
+
+loop-less : tie.Need-loop-less Inv-loop μ-loop
+loop-less c = omega arith
+
+loop-again : tie.Need-loop-again Inv-loop μ-loop
+loop-again c =
+    let a = c .before .before .before .before .before .before .before .args in
+    let l = c .before .before .before .before .before .loop in
+    let turn = c .before .before .before .before .loop-test .taken in
+    let node = c .before .before .number-of .ensures in
+    let low = subst (λ (v : ℕ). l .least ≤ v) node (c .before .if1 .left) in
+    let high = subst (λ (v : ℕ). v < a .n) node (c .if2 .left) in (
+      omega arith,
+      rw node (l .inv .1 ∙ order-of-next (a .row .now) (a .n) (l .least) (l .i) turn low high),
+    )
+
+returns-3 : tie.Need-returns-3 Inv-loop μ-loop
+returns-3 c =
+    let a = c .before .before .before .args in
+    let l = c .before .loop in
+    sym (l .inv .1 ∙ order-of-end (a .row .now) (a .n) (l .least) (l .i) (c .loop-test .left))
+
+pub row-in-order-spec : {M : Type 1} → statement M
+row-in-order-spec =
+    tie.close
+    (tie.spec
+    Inv-loop
+    μ-loop
+    loop-holds
+    shared-slice-read-t9
+    number-of-requires
+    returns
+    returns-2
+    add-least
+    add-i
+    loop-less
+    loop-again
+    returns-3)
