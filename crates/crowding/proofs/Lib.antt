@@ -7,3 +7,6 @@ pub mod Crowded
 pub mod Extended
 pub mod Filled
 pub mod Order
+pub mod TailSets
+pub mod Lowest
+pub mod TailsFirst

@@ -73,7 +73,7 @@ member-below t v (w ∷ row) h a =
     ap₂ _||_ (ne-eqb t w (λ e. omega arith))
     (member-below t w row (omega arith) (and-right (leb (suc v) w) (ascending (suc w) row) a))
 
-holds-cons : (v : ℕ) (row nodes : List ℕ) → T (ascending (suc v) nodes) → holds (v ∷ row) nodes ≡ holds row nodes
+pub holds-cons : (v : ℕ) (row nodes : List ℕ) → T (ascending (suc v) nodes) → holds (v ∷ row) nodes ≡ holds row nodes
 unfolding holds every member ascending
 holds-cons v row [] a = refl
 holds-cons v row (w ∷ nodes) a =
