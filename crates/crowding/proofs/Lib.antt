@@ -10,3 +10,4 @@ pub mod Order
 pub mod TailSets
 pub mod Lowest
 pub mod TailsFirst
+pub mod TailsFew
