@@ -1,4 +1,3 @@
 pub mod Steps
-pub mod Opening
 pub mod Rows
 pub mod Worked

@@ -16,11 +16,11 @@ fn digit(row: &[u8], i: usize) -> u8 {
 
 fn write_rows(bytes: &[u8], first: Cursor) {
     let mut place = first;
-    while walk::has_row(bytes, place) {
-        let row = walk::row_at(bytes, place);
+    while walk_code::has_row(bytes, place) {
+        let row = walk_code::row_at(bytes, place);
         let line = [digit(row, 0), digit(row, 1), digit(row, 2), b'\n'];
         io::write_all(STDOUT_FILENO, &line);
-        place = walk::moved(bytes, place);
+        place = walk_code::moved(bytes, place);
     }
 }
 
@@ -65,7 +65,7 @@ fn main() {
         4,
         5,
     ];
-    let answer = walk::opened(&file);
-    let first = walk::opened_place(answer);
+    let answer = walk_code::opened(&file);
+    let first = walk_code::opened_place(answer);
     write_rows(&file, first);
 }

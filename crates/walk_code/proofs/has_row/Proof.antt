@@ -1,11 +1,11 @@
--- `walk::has_row` meets its contract: no row is left, the place is past the end, or what follows it has room for a row or
+-- `walk_code::has_row` meets its contract: no row is left, the place is past the end, or what follows it has room for a row or
 -- has not. Assumes nothing.
 use native.Mathlib.Omega.{arith}
 use mathlib.Core.Path.{sym}
 use borrow.Author.Needs.{needs}
 use Rattle.walk.proofs.Steps.{not-hasRow-of-none, not-hasRow-of-lt, room-hasRow}
-use Rattle.walk.proofs.has_row.Statement.{statement}
-use Rattle.walk.proofs.has_row.Tie as tie
+use Rattle.walk_code.proofs.has_row.Statement.{statement}
+use Rattle.walk_code.proofs.has_row.Tie as tie
 
 returns : tie.Need-returns
 returns c =

@@ -1,4 +1,4 @@
--- `walk::step` meets its contract: a walk of its MIR, by hand. The struct is taken apart, `row_at` and `moved` are called on the bytes and the place, and what they return is put together. All that the proof knows of the two is that they meet their contracts.
+-- `walk_code::step` meets its contract: a walk of its MIR, by hand. The struct is taken apart, `row_at` and `moved` are called on the bytes and the place, and what they return is put together. All that the proof knows of the two is that they meet their contracts.
 -- The struct is Copy: what it owns is had again for each call and for the result, and is kept whole for the exit. The lifetime's token goes to each callee, and comes back.
 -- Assumes nothing.
 use mathlib.Core.Path.{_≡_, refl, sym, ap, subst}
@@ -41,28 +41,28 @@ use denote.Triple.Table.{entered, cited}
 use denote.Triple.Walked.{says, Stays, stay-none, walkOf, goes-none, Walks, ends-at, walked, walk-meets}
 use denote.Exit.{yes}
 use denote.Triple.Clauses.{ensured, lasts}
 use Rattle.walk.specs.RowWalk.{stepWalk, RowPart}
 use Rattle.walk.specs.declared.Cursor.{Cursor}
-use Rattle.walk.specs.declared.Walk.{Walk}
-use Rattle.walk.specs.declared.Stepped.{Stepped}
+use Rattle.walk_code.specs.declared.Walk.{Walk}
+use Rattle.walk_code.specs.declared.Stepped.{Stepped}
 use Rattle.walk.proofs.Cursor as P
 use Rattle.walk.proofs.Cursor.Laws as P′
-use Rattle.walk.proofs.Walk as T
-use Rattle.walk.proofs.Walk.Laws as T′
-use Rattle.walk.proofs.Stepped as S
-use Rattle.walk.proofs.Stepped.Laws as S′
-use Rattle.walk.proofs.row_at as row
-use Rattle.walk.proofs.row_at.Symbol as row-def
-use Rattle.walk.proofs.row_at.Symbol.{name as #walk·row-at}
-use Rattle.walk.proofs.row_at.Met as row-thm
-use Rattle.walk.proofs.moved as moved
-use Rattle.walk.proofs.moved.Symbol as moved-def
-use Rattle.walk.proofs.moved.Symbol.{name as #walk·moved}
-use Rattle.walk.proofs.moved.Met as moved-thm
-use Rattle.walk.proofs.step.Key.{name as #walk·step}
-use Rattle.walk.proofs.step as step
-use Rattle.walk.proofs.step.Statement as stated
-use Rattle.walk.proofs.step.Code as code
+use Rattle.walk_code.proofs.Walk as T
+use Rattle.walk_code.proofs.Walk.Laws as T′
+use Rattle.walk_code.proofs.Stepped as S
+use Rattle.walk_code.proofs.Stepped.Laws as S′
+use Rattle.walk_code.proofs.row_at as row
+use Rattle.walk_code.proofs.row_at.Symbol as row-def
+use Rattle.walk_code.proofs.row_at.Symbol.{name as #walk-code·row-at}
+use Rattle.walk_code.proofs.row_at.Met as row-thm
+use Rattle.walk_code.proofs.moved as moved
+use Rattle.walk_code.proofs.moved.Symbol as moved-def
+use Rattle.walk_code.proofs.moved.Symbol.{name as #walk-code·moved}
+use Rattle.walk_code.proofs.moved.Met as moved-thm
+use Rattle.walk_code.proofs.step.Key.{name as #walk-code·step}
+use Rattle.walk_code.proofs.step as step
+use Rattle.walk_code.proofs.step.Statement as stated
+use Rattle.walk_code.proofs.step.Code as code
 
 -- the struct's type, over the signature's lifetimes
 abbrev B : Lfts 1 → RattleType
@@ -203,7 +203,7 @@ module _ {M : Type 1} (𝓤 : URA M) (H : Heap 𝓤) (A : Atoms 𝓤) (W : Given
       (shr-slice-lawful 𝓤 H A W (named 0) κ u8 .typed r (u ∷ []) ru .0 .1, (walk-typed bytes-wt .1, tt)),
     )
 
-  module _ (C : Calls 𝓤 H) (Λ : Loops 𝓤 H) (fm : FmC 𝓤 H (W .laws) C) (known-row : Triple 𝓤 (C #walk·row-at) (RowAt 𝓤 H A mem run)) (known-moved : Triple 𝓤 (C #walk·moved) (Moved 𝓤 H A mem run)) where
+  module _ (C : Calls 𝓤 H) (Λ : Loops 𝓤 H) (fm : FmC 𝓤 H (W .laws) C) (known-row : Triple 𝓤 (C #walk-code·row-at) (RowAt 𝓤 H A mem run)) (known-moved : Triple 𝓤 (C #walk-code·moved) (Moved 𝓤 H A mem run)) where
     walk : Holds (hasTy (T′.mir (named 0)) mach) × WT mach → ent 𝓤 (onEntry 𝓤 H A step.signature (κ, tt) (q, tt) (d, tt) (mach ∷ [], tt)) (WpFn 𝓤 H C Λ code.function (mach ∷ []) Post)
     walk wt =
         qed W (raw (onEntry 𝓤 H A step.signature (κ, tt) (q, tt) (d, tt) (mach ∷ [], tt)) ∷ []) ∵ enter ! C Λ code.function (mach ∷ []) _ $
@@ -231,13 +231,13 @@ module _ {M : Type 1} (𝓤 : URA M) (H : Heap 𝓤) (A : Atoms 𝓤) (W : Given
         by ! (exits r n u w ru nw is-row is-place))))))))))))))))
 
 module _ {M : Type 1} (𝓤 : URA M) (H : Heap 𝓤) (A : Atoms 𝓤) (W : Given 𝓤 H A) (mem : Memory → SProp 𝓤) (run : Routine → Fun 𝓤) where
-  step-walks : (C : Calls 𝓤 H) (Λ : Loops 𝓤 H) → FmC 𝓤 H (W .laws) C → Triple 𝓤 (C #walk·row-at) (RowAt 𝓤 H A mem run) → Triple 𝓤 (C #walk·moved) (Moved 𝓤 H A mem run)
+  step-walks : (C : Calls 𝓤 H) (Λ : Loops 𝓤 H) → FmC 𝓤 H (W .laws) C → Triple 𝓤 (C #walk-code·row-at) (RowAt 𝓤 H A mem run) → Triple 𝓤 (C #walk-code·moved) (Moved 𝓤 H A mem run)
       → Walks 𝓤 H A step.ended stayed (WpFn 𝓤 H C Λ code.function) (step.clauses 𝓤 H A mem run)
   step-walks C Λ fm known-row known-moved = walked 𝓤 H A step.ended stayed (step.clauses 𝓤 H A mem run) (WpFn 𝓤 H C Λ code.function) (λ κs. (LL.vals (T.the-type (namedLft 1 0 tt κs)) (T′.the-laws (namedLft 1 0 tt κs)), tt)) (λ κs. (LL.tells (T.the-type (namedLft 1 0 tt κs)) (T′.the-laws (namedLft 1 0 tt κs)), tt))
       (λ κs qs bounds a g are. via 𝓤 _ (fst∗ 𝓤 _ (emp 𝓤)) (walk 𝓤 H A W mem run (κs .0) (qs .0) (a .0) C Λ fm known-row known-moved (LL.lawful (T.the-type (namedLft 1 0 tt κs)) (T′.the-laws (namedLft 1 0 tt κs)) 𝓤 H A W .typed (a .0) _ (are .0) .0)))
 
 step-meets : {M : Type 1} (𝓤 : URA M) (H : Heap 𝓤) (A : Atoms 𝓤) (W : Given 𝓤 H A) (mem : Memory → SProp 𝓤) (run : Routine → Fun 𝓤) (𝓣 : Tables 𝓤 H)
-    → Triple 𝓤 (𝓣 .C #walk·row-at) (RowAt 𝓤 H A mem run) → Triple 𝓤 (𝓣 .C #walk·moved) (Moved 𝓤 H A mem run)
+    → Triple 𝓤 (𝓣 .C #walk-code·row-at) (RowAt 𝓤 H A mem run) → Triple 𝓤 (𝓣 .C #walk-code·moved) (Moved 𝓤 H A mem run)
     → Meets 𝓤 H A step.signature (WpFn 𝓤 H (𝓣 .C) (𝓣 .Λ) code.function) (step.spec 𝓤 H A mem run)
 step-meets 𝓤 H A W mem run 𝓣 known-row known-moved = walk-meets 𝓤 H A step.ended stayed W (goes-none 𝓤 H A W 1 B yes (λ κs x f. refl), tt) (step.clauses 𝓤 H A mem run) (WpFn 𝓤 H (𝓣 .C) (𝓣 .Λ) code.function) (WpFn-mono 𝓤 H (W .laws) 𝓣 code.function)
     (step-walks 𝓤 H A W mem run (𝓣 .C) (𝓣 .Λ) (fmOf 𝓤 H (W .laws) 𝓣) known-row known-moved)
@@ -246,7 +246,7 @@ pub step-spec : {M : Type 1} → stated.statement M
 unfolding code.routine tablesOf
 step-spec 𝓤 H 𝓜 𝓖 𝓡 =
     entered 𝓤 H (tripleOf 𝓤 H (𝓖 .A) step.signature (step.spec 𝓤 H (𝓖 .A) (𝓜 .mem) (𝓡 .run)))
-    (tables 𝓤 H 𝓜 𝓡 code.env .C) (tables 𝓤 H 𝓜 𝓡 code.env .Λ) #walk·step code.function (code.unfolded 𝓤 H 𝓜 𝓡)
+    (tables 𝓤 H 𝓜 𝓡 code.env .C) (tables 𝓤 H 𝓜 𝓡 code.env .Λ) #walk-code·step code.function (code.unfolded 𝓤 H 𝓜 𝓡)
     (step-meets 𝓤 H (𝓖 .A) (givenOf 𝓤 H 𝓜 𝓖) (𝓜 .mem) (𝓡 .run) (tablesOf 𝓤 H 𝓜 (tables 𝓤 H 𝓜 𝓡 code.env))
-    (cited 𝓤 H (RowAt 𝓤 H (𝓖 .A) (𝓜 .mem) (𝓡 .run)) 𝓜 𝓡 code.env #walk·row-at row-def.routine code.calls-walk·row-at (row-thm.met 𝓤 H 𝓜 𝓖 𝓡))
-    (cited 𝓤 H (Moved 𝓤 H (𝓖 .A) (𝓜 .mem) (𝓡 .run)) 𝓜 𝓡 code.env #walk·moved moved-def.routine code.calls-walk·moved (moved-thm.met 𝓤 H 𝓜 𝓖 𝓡)))
+    (cited 𝓤 H (RowAt 𝓤 H (𝓖 .A) (𝓜 .mem) (𝓡 .run)) 𝓜 𝓡 code.env #walk-code·row-at row-def.routine code.calls-walk-code·row-at (row-thm.met 𝓤 H 𝓜 𝓖 𝓡))
+    (cited 𝓤 H (Moved 𝓤 H (𝓖 .A) (𝓜 .mem) (𝓡 .run)) 𝓜 𝓡 code.env #walk-code·moved moved-def.routine code.calls-walk-code·moved (moved-thm.met 𝓤 H 𝓜 𝓖 𝓡)))

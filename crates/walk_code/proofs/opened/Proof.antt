@@ -1,11 +1,11 @@
--- `walk::opened` meets its contract: the checker's answer, as that of opening. Assumes nothing.
+-- `walk_code::opened` meets its contract: the checker's answer, as that of opening. Assumes nothing.
 use mathlib.Core.Path.{_∙_, ap}
 use borrow.Author.Needs.{needs}
 use Rattle.placement.specs.declared.PlacementCheck.{PlacementCheck}
 use Rattle.walk.specs.RowWalk.{openedOf}
-use Rattle.walk.proofs.Opening.{openedOf-checked}
-use Rattle.walk.proofs.opened.Statement.{statement}
-use Rattle.walk.proofs.opened.Tie as tie
+use Rattle.walk_code.proofs.Opening.{openedOf-checked}
+use Rattle.walk_code.proofs.opened.Statement.{statement}
+use Rattle.walk_code.proofs.opened.Tie as tie
 
 check-placement-requires : tie.Need-check-placement-requires
 check-placement-requires c κs = search needs

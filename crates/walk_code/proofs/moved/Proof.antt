@@ -1,10 +1,10 @@
--- `walk::moved` meets its contract: past the row that `has_row` found, or unmoved at the end. Assumes nothing.
+-- `walk_code::moved` meets its contract: past the row that `has_row` found, or unmoved at the end. Assumes nothing.
 use native.Mathlib.Omega.{arith}
 use mathlib.Core.Path.{sym, _∙_}
 use borrow.Author.Needs.{needs}
 use Rattle.walk.proofs.Steps.{row-within, stepWalk-some, stepWalk-end}
-use Rattle.walk.proofs.moved.Statement.{statement}
-use Rattle.walk.proofs.moved.Tie as tie
+use Rattle.walk_code.proofs.moved.Statement.{statement}
+use Rattle.walk_code.proofs.moved.Tie as tie
 
 has-row-requires : tie.Need-has-row-requires
 has-row-requires c κs = search needs

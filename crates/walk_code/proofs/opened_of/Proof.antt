@@ -1,9 +1,9 @@
--- `walk::opened_of` meets its contract, by the cases of the answer. Assumes nothing.
+-- `walk_code::opened_of` meets its contract, by the cases of the answer. Assumes nothing.
 use mathlib.Core.Path.{sym, ap}
 use borrow.Author.Needs.{needs}
 use Rattle.walk.specs.RowWalk.{openedOf}
-use Rattle.walk.proofs.opened_of.Statement.{statement}
-use Rattle.walk.proofs.opened_of.Tie as tie
+use Rattle.walk_code.proofs.opened_of.Statement.{statement}
+use Rattle.walk_code.proofs.opened_of.Tie as tie
 
 enum-known-answer : tie.Need-enum-known-answer
 enum-known-answer c = search needs

@@ -1,9 +1,9 @@
--- `walk::opened_place` meets its contract, by the cases of the answer. Assumes nothing.
+-- `walk_code::opened_place` meets its contract, by the cases of the answer. Assumes nothing.
 use mathlib.Core.Path.{sym, ap}
 use borrow.Author.Needs.{needs}
 use Rattle.walk.specs.RowWalk.{openedPlace}
-use Rattle.walk.proofs.opened_place.Statement.{statement}
-use Rattle.walk.proofs.opened_place.Tie as tie
+use Rattle.walk_code.proofs.opened_place.Statement.{statement}
+use Rattle.walk_code.proofs.opened_place.Tie as tie
 
 enum-known-answer : tie.Need-enum-known-answer
 enum-known-answer c = search needs

@@ -1,10 +1,10 @@
--- `walk::row_at` meets its contract: the part that `has_row` found, or an empty one. Assumes nothing.
+-- `walk_code::row_at` meets its contract: the part that `has_row` found, or an empty one. Assumes nothing.
 use native.Mathlib.Omega.{arith}
 use mathlib.Core.Path.{refl, sym, _∙_}
 use borrow.Author.Needs.{needs}
 use Rattle.walk.proofs.Steps.{row-within, part-some, part-end}
-use Rattle.walk.proofs.row_at.Statement.{statement}
-use Rattle.walk.proofs.row_at.Tie as tie
+use Rattle.walk_code.proofs.row_at.Statement.{statement}
+use Rattle.walk_code.proofs.row_at.Tie as tie
 
 has-row-requires : tie.Need-has-row-requires
 has-row-requires c κs = search needs
