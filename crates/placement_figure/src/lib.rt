@@ -23,8 +23,8 @@ pub fn figure_of(s: usize, k: usize, b: usize, lambda: [usize; 5], c: [usize; 5]
     let mut lost: usize = 0;
     let mut x: usize = 0;
     while x < s {
-        let above = binomial::binomial(k, x + 1);
-        let below = binomial::binomial(s, x + 1);
+        let above = binomial_table::binomial(k, x + 1);
+        let below = binomial_table::binomial(s, x + 1);
         lost += loss(lambda[x], c[x], above, below);
         x += 1;
     }

@@ -21,8 +21,8 @@ pub fn terms(mu: [usize; 5], m: [usize; 5], s: usize, k: usize, x: usize) -> Los
     LossTerms {
         bound: mu[x],
         size: m[x],
-        failed: binomial::binomial(k, x + 1),
-        lost: binomial::binomial(s, x + 1),
+        failed: binomial_table::binomial(k, x + 1),
+        lost: binomial_table::binomial(s, x + 1),
     }
 }
 

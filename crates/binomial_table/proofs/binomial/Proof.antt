@@ -1,15 +1,15 @@
--- `binomial::binomial` meets its contract: the table has Pascal's rule, tested here over all of its entries by one
+-- `binomial_table::binomial` meets its contract: the table has Pascal's rule, tested here over all of its entries by one
 -- computation. Assumes nothing.
 use mathlib.Core.Path.{_≡_, refl}
 use mathlib.Core.Bool.{true}
 use mathlib.Core.List.{List}
 use Prim.Native.Nat.{ℕ}
 use borrow.Author.Needs.{needs}
-use Rattle.binomial.proofs.Pascal.{pascal-test, table-entry}
-use Rattle.binomial.proofs.binomial.Statement.{statement}
-use Rattle.binomial.proofs.binomial.Tie as tie
-use Rattle.binomial.proofs.binomial.Reads as reads
-use Rattle.binomial.proofs.binomial.Lts as lts
+use Rattle.binomial_table.proofs.Pascal.{pascal-test, table-entry}
+use Rattle.binomial_table.proofs.binomial.Statement.{statement}
+use Rattle.binomial_table.proofs.binomial.Tie as tie
+use Rattle.binomial_table.proofs.binomial.Reads as reads
+use Rattle.binomial_table.proofs.binomial.Lts as lts
 
 mul-result : tie.Need-mul-result
 mul-result c = search needs
