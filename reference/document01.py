@@ -4,6 +4,7 @@ Written from document 01 alone, with brute force where it can. Standard library 
 """
 from itertools import combinations, product
 from math import comb
+from operator import add
 
 LARGEST = 268_435_455
 
@@ -176,21 +177,22 @@ def least_copies(c, m):
 
 def named_split(layers, s, k, b):
     """The counts of the layers below s: the highest figure, then the largest count from layer s-1 down."""
-    best = {0: (0, ())}
-    for x in range(s):
-        mu, blocks = layers[x]
+    no_split = b + 1
+    losses = []
+    for x, (mu, blocks) in enumerate(layers[:s]):
         m = len(blocks)
-        losses = [loss(s, k, x, least_copies(c, m) * mu, c) if m or not c else None for c in range(b + 1)]
-        after = {}
-        for total in range(b + 1):
-            for c in range(total, -1, -1):
-                if losses[c] is None or total - c not in best:
-                    continue
-                cost = losses[c] + best[total - c][0]
-                if total not in after or cost < after[total][0]:
-                    after[total] = (cost, best[total - c][1] + (c,))
-        best = after
-    return best[b][1]
+        losses.append([0] + [loss(s, k, x, least_copies(c, m) * mu, c) if m else no_split for c in range(1, b + 1)])
+    # rows[x][j]: the least loss of j records in the layers up to x. A layer's counts go down from j to 0, what is left for the
+    # layers below goes up.
+    rows = losses[:1]
+    for x in range(1, s - 1):
+        rows.append([min(map(add, losses[x][j::-1], rows[-1])) for j in range(b + 1)])
+    counts, left = (), b
+    for x in range(s - 1, 0, -1):
+        sums = list(map(add, losses[x][left::-1], rows[x - 1]))
+        c = left - sums.index(min(sums))
+        counts, left = (c,) + counts, left - c
+    return (left,) + counts
 
 
 def every_split(s, b):
