@@ -51,6 +51,7 @@ GF4 = Field(2, 2, (1, 1))
 GF9 = Field(3, 2, (2, 0))
 GF16 = Field(2, 4, (1, 1, 0, 0))
 GF27 = Field(3, 3, (2, 1, 0))
+GF49 = Field(7, 2, (3, 0))
 
 
 def ordered(blocks):
@@ -164,6 +165,36 @@ def mathieu_23():
     return ordered(block[:-1] for block in blocks if block[-1] == 23)
 
 
+def denniston_26():
+    """S(3,5,26): the blocks through two points of the S(5,7,28), which are the images of two blocks under PSL(2,27), one
+    fixed by an element of order 3 and one by an element of order 7: R. H. F. Denniston (1976); the two found by computer;
+    [HCD] II.5."""
+    bases = ((0, 1, 2, 3, 4, 5, 27), (0, 2, 7, 10, 11, 13, 22))
+    blocks = [block for base in bases for block in moebius_images(GF27, base, special=True)]
+    return ordered(block[:-2] for block in blocks if block[-2:] == (26, 27))
+
+
+def mixed_differences(field, y):
+    """S(2,5,5q) over the integers modulo 5 and the field, q = 1 modulo 4, by R. C. Bose's method of mixed differences (1939);
+    [HCD] VI.16. The base block (0,1) (0,-1) (1,y) (1,-y) (3,0), where y and y^2 - 1 are not squares: its differences of each
+    kind are a square, its negative, a nonsquare and its negative, so those of its multiples by half the squares, no two of
+    them negatives, are all elements but 0 once. Then the blocks of the five nodes with one field element."""
+    point = lambda i, a: i % 5 * field.q + a
+    half = set()
+    for a in range(1, field.q):
+        square = field.multiply(a, a)
+        if field.negative(square) not in half:
+            half.add(square)
+    blocks = [tuple(point(i, a) for i in range(5)) for a in range(field.q)]
+    for m in half:
+        times_y = field.multiply(m, y)
+        base = ((0, m), (0, field.negative(m)), (1, times_y), (1, field.negative(times_y)), (3, 0))
+        for i in range(5):
+            for a in range(field.q):
+                blocks.append(tuple(point(j + i, field.add(v, a)) for j, v in base))
+    return ordered(blocks)
+
+
 def difference_family(n, bases):
     """The translates of the base blocks modulo n: [HCD] II.18 and VI.16."""
     return ordered(tuple((v + t) % n for v in base) for base in bases for t in range(n))
@@ -181,6 +212,8 @@ def disjoint(n, r):
 
 def catalogue():
     """(name, source, n, r, x, rows) of each packing."""
+    for n in (31, 71):
+        yield f"pairs{n}", all_sets.__doc__, n, 2, 1, all_sets(n, 2)
     for n in (9, 15, 21, 27, 69, 153):
         yield f"sts{n}", bose.__doc__, n, 3, 1, bose(n)
     for n in (7, 13, 19, 31, 157):
@@ -198,6 +231,8 @@ def catalogue():
     yield "inversive17", spherical.__doc__, 17, 5, 2, spherical(GF16, subfield)
     yield "mathieu11", mathieu_11.__doc__, 11, 5, 3, mathieu_11()
     yield "mathieu23", mathieu_23.__doc__, 23, 5, 3, mathieu_23()
+    yield "denniston26", denniston_26.__doc__, 26, 5, 2, denniston_26()
+    yield "mixed245", mixed_differences.__doc__, 245, 5, 1, mixed_differences(GF49, 10)
     for n, bases in ((13, [(0, 1, 3, 9)]), (37, [(0, 1, 3, 24), (0, 4, 26, 32), (0, 10, 18, 30)]),
                      (21, [(0, 1, 4, 14, 16)]), (41, [(0, 1, 4, 11, 29), (0, 2, 8, 17, 22)]),
                      (65, [(0, 1, 3, 31, 45), (0, 4, 10, 19, 57), (0, 5, 16, 41, 48), (0, 13, 26, 39, 52)])):
