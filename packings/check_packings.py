@@ -7,7 +7,7 @@ from pathlib import Path
 
 sys.path.insert(0, str(Path(__file__).resolve().parent.parent / "reference"))
 
-from document01 import check_pack, check_placement, first_crowded, number_bytes, plan, worst_case  # noqa: E402
+from document01 import check_pack, check_placement, first_crowded, numbers, plan, worst_case  # noqa: E402
 from constructions import all_sets, catalogue, disjoint  # noqa: E402
 
 
@@ -19,8 +19,8 @@ def pack_bytes(n, r, x, rows):
     layers[x] = rows
     if x < r - 1 and n <= 13:
         layers[r - 1] = all_sets(n, r)
-    numbers = [1, n, r] + [v for layer in layers for v in (1, len(layer))]
-    return b"".join(map(number_bytes, numbers)) + bytes(v for layer in layers for row in layer for v in row)
+    head = numbers(1, n, r, *(v for layer in layers for v in (1, len(layer))))
+    return head + bytes(v for layer in layers for row in layer for v in row)
 
 
 def orders(n, r):

@@ -2,6 +2,7 @@
 
 Written from document 01 alone, with brute force where it can. Standard library only.
 """
+from collections import Counter
 from itertools import combinations, product
 from math import comb
 from operator import add
@@ -25,6 +26,10 @@ def number_bytes(v):
         v //= 128
     out.append(v)
     return bytes(out)
+
+
+def numbers(*values):
+    return b"".join(number_bytes(v) for v in values)
 
 
 def read_number(data, at):
@@ -68,7 +73,7 @@ def read_kind(data, kind):
 # --- rows
 
 def good_row(row, n):
-    return list(row) == sorted(set(row)) and all(node < n for node in row)
+    return list(row) == sorted(set(row)) and max(row) < n
 
 
 def together(rows, nodes):
@@ -76,13 +81,11 @@ def together(rows, nodes):
 
 
 def first_crowded(rows, x, bound):
-    """The first row that holds x+1 nodes which stand together in more than `bound` of the rows, or None."""
-    many = {}
-    for row in rows:
-        for nodes in combinations(sorted(set(row)), x + 1):
-            many[nodes] = many.get(nodes, 0) + 1
+    """The first of the ascending rows that holds x+1 nodes which stand together in more than `bound` of them, or None."""
+    many = Counter(nodes for row in rows for nodes in combinations(row, x + 1))
+    crowded = {nodes for nodes in many if many[nodes] > bound}
     for i, row in enumerate(rows):
-        if any(many[nodes] > bound for nodes in combinations(sorted(set(row)), x + 1)):
+        if not crowded.isdisjoint(combinations(row, x + 1)):
             return i
     return None
 
@@ -231,8 +234,7 @@ def plan(data, s, k, b, work=None, output=None):
     counts = named_split(layers, s, k, b)
     heads = [(least_copies(c, len(layers[x][1])) * layers[x][0], c) for x, c in enumerate(counts)]
     f = figure(s, k, b, heads)
-    numbers = [2, n, r, s, k, b, f] + [v for head in heads for v in head]
-    out = b"".join(number_bytes(v) for v in numbers)
+    out = numbers(2, n, r, s, k, b, f, *(v for head in heads for v in head))
     for x, c in enumerate(counts):
         blocks = layers[x][1]
         out += b"".join(bytes(blocks[j % len(blocks)]) for j in range(c))

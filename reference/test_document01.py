@@ -8,6 +8,7 @@ sys.path.insert(0, str(Path(__file__).resolve().parent))
 
 from document01 import (Refused, check_pack, check_placement, check_reply, comb, figure, first_crowded, named_split,
                         named_split_by_force, number_bytes, plan, plan_reply, read_number, together, walk, worst_case)
+from limits import largest_placements
 
 ROWS = "012 345 012 034 056 135 146 236 245".split()
 P = bytes([1, 7, 3, 1, 2, 1, 7, 1, 0]) + bytes(int(d) for row in ROWS for d in row)
@@ -60,6 +61,19 @@ class Examples(unittest.TestCase):
         self.assertEqual(plan_reply(bytes([2, 128])), b"refused 12 1\n")
         self.assertEqual(plan_reply(bytes([2, 3, 9])), b"refused 1 0\n")
         self.assertEqual(len(walk(NINE)), 9)
+
+
+class Limits(unittest.TestCase):
+    def test_largest_placements(self):
+        """Layer 0 loses 18 x k/5; layer 1, of 819 rows, C(k,2)/10; every later one C(k,x+1)/C(5,x+1) or all its 819."""
+        figures = {5: 4096 - 18 - 4, 100: 4096 - 360 - 495 - 3 * 819, 254: 0}
+        end = 25 + 5 * 4096
+        expected = [b"accepted %d 4096 %d 255 90 80\n" % (f, k) for k, f in figures.items()]
+        expected += [b"refused %d %d\n" % pair for pair in [(6, end - 5), (6, end - 5), (5, end), (1, end - 1), (8, 8),
+                                                           (7, end - 10)]]
+        files = list(largest_placements())
+        self.assertEqual(list(map(check_reply, files[:9])), expected)
+        self.assertEqual([len(data) > 32_768 for data in files].count(True), 1)
 
 
 class BruteForce(unittest.TestCase):

@@ -9,15 +9,13 @@ import random
 import sys
 from pathlib import Path
 
-from document01 import LARGEST, check_placement, check_reply, first_crowded, number_bytes, plan_reply, read_number
+from document01 import (LARGEST, check_placement, check_reply, first_crowded, number_bytes, numbers, plan_reply,
+                        read_number)
+from limits import largest_orders, largest_placements
 
 ROWS = "012 345 012 034 056 135 146 236 245".split()
 P = bytes([1, 7, 3, 1, 2, 1, 7, 1, 0]) + bytes(int(d) for row in ROWS for d in row)
 NINE = bytes([2, 7, 3, 2, 3, 9, 5, 1, 2, 1, 7]) + bytes(int(d) for row in ROWS for d in row)
-
-
-def numbers(*values):
-    return b"".join(number_bytes(v) for v in values)
 
 
 def order(s, k, b):
@@ -122,6 +120,7 @@ def check_vectors():
         for step in (1, 127, 128, 255):
             yield NINE[:at] + bytes([(NINE[at] + step) % 256]) + NINE[at + 1:]
     yield from edge_placements()
+    yield from largest_placements()
     made = 0
     while made < 500:
         n, r, pack = random_pack(draw, extra=1)
@@ -165,6 +164,7 @@ def plan_vectors():
     for s, k, b in [(2, 2, 7), (2, 3, 7), (2, 3, 9), (2, 2, 9), (3, 4, 7), (2, 2, 1)]:
         yield order(s, k, b) + P
     yield from edge_plans()
+    yield from largest_orders()
     for _ in range(600):
         n, r, pack = random_pack(draw, most=draw.choice([6, 20]), extra=draw.choice([2, 2, -1]))
         s, k, b = random_order(draw, n, r, 40)

@@ -216,8 +216,9 @@ fn run_both(input: &mut [u8], expected: &mut [u8], work: &mut [u16], out: &mut [
     run_kind(true, input, expected, work, out);
 }
 
+// One byte more than the programs read fits the input.
 fn main() {
-    let mut input = [0u8; 32768];
+    let mut input = [0u8; 32769];
     let mut expected = [0u8; 20544];
     let mut work = [0u16; 20485];
     let mut out = [0u8; 20544];

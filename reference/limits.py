@@ -1,0 +1,93 @@
+"""The largest files that document 01 takes, and the same refused at their end: 4,096 rows of five of 255 nodes.
+
+Row j of layer x has the values at 0 to 4 of a polynomial, whose coefficients are the lowest x+1 digits of j to the base 47.
+Each value has its own nodes, and x+1 values give the polynomial, so x+1 nodes stand together only in equal rows.
+"""
+from document01 import figure, numbers
+
+NODES, ROW, MOST, LARGEST_BOUND, BUFFER = 255, 5, 4_096, 16_777_216, 32_768
+PRIME = 47
+EVERY_LAYER = [820, 819, 819, 819, 819]
+
+
+def alone(x):
+    """All rows in layer x."""
+    return [MOST if y == x else 0 for y in range(ROW)]
+
+
+def row(x, j):
+    digits = [j // PRIME ** i % PRIME for i in range(x + 1)]
+    return bytes(52 * v + sum(d * v ** i for i, d in enumerate(digits)) % PRIME for v in range(ROW))
+
+
+def rows(sizes):
+    return b"".join(row(x, j) for x, size in enumerate(sizes) for j in range(size))
+
+
+def least_bounds(sizes):
+    return [-(-size // PRIME ** (x + 1)) for x, size in enumerate(sizes)]
+
+
+def heads(bounds, sizes):
+    return [v for head in zip(bounds, sizes) for v in head]
+
+
+def placement(k, sizes, bounds=None, more=0):
+    """A placement with s = 5, its figure `more` than the formula's."""
+    bounds = bounds or least_bounds(sizes)
+    b = sum(sizes)
+    f = figure(ROW, k, b, list(zip(bounds, sizes))) + more
+    return numbers(2, NODES, ROW, ROW, k, b, f, *heads(bounds, sizes)) + rows(sizes)
+
+
+def pack(sizes, bounds=None):
+    bounds = bounds or [max(1, bound) for bound in least_bounds(sizes)]
+    return numbers(1, NODES, ROW, *heads(bounds, sizes)) + rows(sizes)
+
+
+def twins(data):
+    """The last two rows equal."""
+    return data[:-2 * ROW] + data[-ROW:] * 2
+
+
+def refused_at_the_end(data):
+    yield data[:-2] + data[:-3:-1]
+    yield data[:-1] + bytes([NODES])
+    yield data + b"\0"
+    yield data[:-1]
+
+
+def past_the_buffer(data):
+    """One byte more than the programs read."""
+    return data.ljust(BUFFER + 1, b"\0")
+
+
+def largest_placements():
+    for k in (5, 100, 254):
+        yield placement(k, EVERY_LAYER)
+    yield from refused_at_the_end(placement(100, EVERY_LAYER))
+    yield placement(100, EVERY_LAYER, more=1)
+    for bound in (1, 2):
+        yield twins(placement(100, EVERY_LAYER, least_bounds(EVERY_LAYER)[:-1] + [bound]))
+    yield placement(100, alone(1))
+    yield twins(placement(100, alone(2)))
+    yield past_the_buffer(placement(100, EVERY_LAYER))
+    for bound in (LARGEST_BOUND, LARGEST_BOUND + 1):
+        for x in range(ROW):
+            yield placement(254, [1] * ROW, [bound if y == x else 1 for y in range(ROW)])
+
+
+def largest_orders():
+    every = pack(EVERY_LAYER)
+    for k in (6, 100, 254):
+        yield numbers(ROW, k, MOST) + every
+    order = numbers(ROW, 6, MOST)
+    for data in refused_at_the_end(every):
+        yield order + data
+    yield order + pack(alone(1))
+    yield order + twins(pack(alone(2)))
+    yield order + pack([821, 819, 819, 819, 819])
+    yield order + numbers(1, NODES, ROW, *heads([1] * ROW, [0, 0, 0, 0, MOST + 1]))
+    yield past_the_buffer(order + every)
+    for mu in (MOST, MOST + 1):
+        yield numbers(ROW, 254, MOST) + pack([1] * ROW, [mu] * ROW)
