@@ -11,7 +11,7 @@ from pathlib import Path
 
 REPOSITORY = Path(__file__).resolve().parent.parent
 PROGRAMS = REPOSITORY / "bench" / "baseline" / "target" / "release"
-VECTORS = {"check": "check", "plan": "plan", "plan_candidates": "plan"}
+VECTORS = {"check": "check", "check_sorted": "check", "plan": "plan", "plan_candidates": "plan"}
 
 
 def vectors(path):

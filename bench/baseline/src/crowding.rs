@@ -24,22 +24,29 @@ const FIRST_CELL: [u16; 256] = {
     first
 };
 
+/// A packing test, its room kept from one layer to the next.
+pub trait PackingTest {
+    /// For rows of nodes below n.
+    fn new(n: usize) -> Self;
+
+    /// The first of these rows that holds `width` (2 or more) nodes which stand in more than `bound` of them.
+    /// There are at most 4,096 rows, and more than `bound`.
+    fn first_crowded<const R: usize>(&mut self, rows: &[[u8; R]], width: usize, bound: usize) -> Option<usize>;
+}
+
 pub struct Counter {
     cells: Box<[u32; CELLS]>,
     pairs: usize,
     groups: u32,
 }
 
-impl Counter {
-    /// For rows of nodes below n.
-    pub fn new(n: usize) -> Self {
+impl PackingTest for Counter {
+    fn new(n: usize) -> Self {
         let Ok(cells) = vec![0; CELLS].into_boxed_slice().try_into() else { unreachable!() };
         Counter { cells, pairs: n * (n - 1) / 2, groups: 0 }
     }
 
-    /// The first of these rows that holds `width` (2 or more) nodes which stand in more than `bound` of them.
-    /// There are at most 4,096 rows, and more than `bound`.
-    pub fn first_crowded<const R: usize>(&mut self, rows: &[[u8; R]], width: usize, bound: usize) -> Option<usize> {
+    fn first_crowded<const R: usize>(&mut self, rows: &[[u8; R]], width: usize, bound: usize) -> Option<usize> {
         match (width, R) {
             (2, _) => self.crowded_pair(rows, bound),
             (3, 3) => self.crowded_group::<R, 1>(rows, &sorted(rows, [[0]]), bound),
@@ -50,7 +57,9 @@ impl Counter {
             _ => self.crowded_group::<R, 3>(rows, &sorted(rows, [[0, 1, 2]]), bound),
         }
     }
+}
 
+impl Counter {
     fn crowded_pair<const R: usize>(&mut self, rows: &[[u8; R]], bound: usize) -> Option<usize> {
         let before = self.next_group(bound);
         self.cells[..self.pairs].fill(before);
@@ -254,14 +263,14 @@ mod tests {
         rows
     }
 
-    fn agrees<const R: usize>(seed: &mut u64) {
+    fn agrees<T: PackingTest, const R: usize>(seed: &mut u64) {
         for n in [R as u64, 6, 9, 14, 255] {
             for size in [1, 2, 7, 40] {
                 let rows = random_rows::<R>(seed, n, size);
-                let mut counter = Counter::new(n as usize);
+                let mut test = T::new(n as usize);
                 for width in 2..=R {
                     for bound in (0..size).filter(|&bound| bound < 4 || bound == 9) {
-                        let found = counter.first_crowded(&rows, width, bound);
+                        let found = test.first_crowded(&rows, width, bound);
                         assert_eq!(found, by_force(&rows, width, bound), "{rows:?} {width} {bound}");
                     }
                 }
@@ -269,14 +278,23 @@ mod tests {
         }
     }
 
-    #[test]
-    fn agrees_with_brute_force() {
+    fn agrees_with_brute_force<T: PackingTest>() {
         let mut seed = 31;
         for _ in 0..20 {
-            agrees::<2>(&mut seed);
-            agrees::<3>(&mut seed);
-            agrees::<4>(&mut seed);
-            agrees::<5>(&mut seed);
+            agrees::<T, 2>(&mut seed);
+            agrees::<T, 3>(&mut seed);
+            agrees::<T, 4>(&mut seed);
+            agrees::<T, 5>(&mut seed);
         }
+    }
+
+    #[test]
+    fn counting_agrees_with_brute_force() {
+        agrees_with_brute_force::<Counter>();
+    }
+
+    #[test]
+    fn sorting_agrees_with_brute_force() {
+        agrees_with_brute_force::<crate::sorted::Sorted>();
     }
 }

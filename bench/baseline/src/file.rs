@@ -1,6 +1,6 @@
 //! Packs and placements: heads, row order and loads, packing, the figure.
 
-use crate::crowding::Counter;
+use crate::crowding::{Counter, PackingTest};
 use crate::number::{Reader, Refusal, refused};
 
 /// A layer's bound (mu or lambda) and its number of rows.
@@ -40,13 +40,13 @@ impl<'a> Pack<'a> {
             size += layer.size;
         }
         let rows = rows_after(&head, size * r)?;
-        check_rows(rows, head.at, n, r, &layers[..r])?;
+        check_rows::<Counter>(rows, head.at, n, r, &layers[..r])?;
         Ok(Pack { n, r, layers, rows })
     }
 }
 
 impl Placement {
-    pub fn check(bytes: &[u8]) -> Result<Self, Refusal> {
+    pub fn check<T: PackingTest>(bytes: &[u8]) -> Result<Self, Refusal> {
         let mut head = Reader::new(bytes);
         head.kind(2)?;
         let n = head.within(2, 255)?;
@@ -66,7 +66,7 @@ impl Placement {
             lost += layer.size.min(layer.bound * choose(k, x + 1) / choose(s, x + 1));
         }
         let rows = rows_after(&head, b * r)?;
-        let most = check_rows(rows, head.at, n, r, &layers[..s])?;
+        let most = check_rows::<T>(rows, head.at, n, r, &layers[..s])?;
         if figure != b - lost {
             return refused(8, figure_at);
         }
@@ -91,16 +91,21 @@ fn rows_after<'a>(head: &Reader<'a>, size: usize) -> Result<&'a [u8], Refusal> {
 }
 
 /// Tests the rows' order and each layer's packing. The largest number of rows that hold one node.
-fn check_rows(rows: &[u8], at: usize, n: usize, r: usize, layers: &[Layer]) -> Result<usize, Refusal> {
+fn check_rows<T: PackingTest>(rows: &[u8], at: usize, n: usize, r: usize, layers: &[Layer]) -> Result<usize, Refusal> {
     match r {
-        2 => check_rows_of::<2>(rows, at, n, layers),
-        3 => check_rows_of::<3>(rows, at, n, layers),
-        4 => check_rows_of::<4>(rows, at, n, layers),
-        _ => check_rows_of::<5>(rows, at, n, layers),
+        2 => check_rows_of::<T, 2>(rows, at, n, layers),
+        3 => check_rows_of::<T, 3>(rows, at, n, layers),
+        4 => check_rows_of::<T, 4>(rows, at, n, layers),
+        _ => check_rows_of::<T, 5>(rows, at, n, layers),
     }
 }
 
-fn check_rows_of<const R: usize>(bytes: &[u8], at: usize, n: usize, layers: &[Layer]) -> Result<usize, Refusal> {
+fn check_rows_of<T: PackingTest, const R: usize>(
+    bytes: &[u8],
+    at: usize,
+    n: usize,
+    layers: &[Layer],
+) -> Result<usize, Refusal> {
     let (rows, _) = bytes.as_chunks::<R>();
     let mut loads = [0u16; 256];
     // The loads after layer 0 are that layer's counts of single nodes.
@@ -113,13 +118,13 @@ fn check_rows_of<const R: usize>(bytes: &[u8], at: usize, n: usize, layers: &[La
     if crowded_node {
         return refused(7, at + first_loaded(single, layers[0].bound) * R);
     }
-    let mut counter = None;
+    let mut test = None;
     let mut done = single.len();
     for (x, layer) in layers.iter().enumerate().skip(1) {
         if layer.size > layer.bound {
             let mine = &rows[done..done + layer.size];
-            let counter = counter.get_or_insert_with(|| Counter::new(n));
-            if let Some(i) = counter.first_crowded(mine, x + 1, layer.bound) {
+            let test = test.get_or_insert_with(|| T::new(n));
+            if let Some(i) = test.first_crowded(mine, x + 1, layer.bound) {
                 return refused(7, at + (done + i) * R);
             }
         }

@@ -3,6 +3,7 @@
 pub mod crowding;
 pub mod file;
 pub mod number;
+pub mod sorted;
 pub mod split;
 pub mod text;
 
@@ -11,6 +12,7 @@ use std::io::{Read, Write};
 use std::mem::ManuallyDrop;
 use std::os::fd::FromRawFd;
 
+use crowding::PackingTest;
 use file::{Pack, Placement};
 use number::{Reader, Refusal, push_number, refused};
 use split::{Fill, Rule};
@@ -35,8 +37,8 @@ pub fn write_output(bytes: &[u8]) {
 }
 
 /// What `check` prints for these bytes.
-pub fn check_reply(input: &[u8]) -> Vec<u8> {
-    match Placement::check(input) {
+pub fn check_reply<T: PackingTest>(input: &[u8]) -> Vec<u8> {
+    match Placement::check::<T>(input) {
         Ok(p) => {
             let mean = (2 * p.b * p.r + p.n) / (2 * p.n);
             text::line("accepted", &[p.figure, p.b, p.k, p.n, p.most, mean])
@@ -125,12 +127,18 @@ mod tests {
         reply
     }
 
+    fn both_checks(input: &[u8]) -> Vec<u8> {
+        let reply = check_reply::<crowding::Counter>(input);
+        assert_eq!(reply, check_reply::<sorted::Sorted>(input));
+        reply
+    }
+
     #[test]
     fn the_nine_records_are_planned_and_accepted() {
         let order = [&[2, 3, 9], &seven_cabinets()[..]].concat();
         let placement = [&[2, 7, 3, 2, 3, 9, 5, 1, 2, 1, 7], &ROWS[..]].concat();
         assert_eq!(both(&order), placement);
-        assert_eq!(check_reply(&placement), b"accepted 5 9 3 7 4 4\n");
+        assert_eq!(both_checks(&placement), b"accepted 5 9 3 7 4 4\n");
     }
 
     #[test]
@@ -138,7 +146,7 @@ mod tests {
         for (s, k, b, figure) in [(2, 2, 7, 6), (2, 3, 7, 4), (2, 3, 9, 5), (2, 2, 9, 7), (3, 4, 7, 5), (2, 2, 1, 0)] {
             let reply = both(&[&[s, k, b], &seven_cabinets()[..]].concat());
             assert_eq!(reply[6], figure, "s {s}, k {k}, b {b}");
-            assert!(check_reply(&reply).starts_with(b"accepted"));
+            assert!(both_checks(&reply).starts_with(b"accepted"));
         }
     }
 
@@ -169,6 +177,6 @@ mod tests {
     fn the_largest_order_is_planned() {
         let reply = both(&[&[2, 3, 128, 32], &seven_cabinets()[..]].concat());
         assert_eq!(reply.len(), 15 + 3 * 4096);
-        assert!(check_reply(&reply).starts_with(b"accepted "));
+        assert!(both_checks(&reply).starts_with(b"accepted "));
     }
 }

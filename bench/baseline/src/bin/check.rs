@@ -1,3 +1,3 @@
 fn main() {
-    baseline::write_output(&baseline::check_reply(&baseline::read_input()));
+    baseline::write_output(&baseline::check_reply::<baseline::crowding::Counter>(&baseline::read_input()));
 }
