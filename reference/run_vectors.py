@@ -2,7 +2,7 @@
 
     python3 reference/run_vectors.py VECTORS CHECK PLAN [EVERY]
 
-VECTORS is the folder with check.vectors and plan.vectors, CHECK and PLAN are the programs; EVERY n takes each n-th vector.
+VECTORS is the folder that vectors.py wrote, CHECK and PLAN are the programs; EVERY n takes each n-th vector.
 """
 import subprocess
 import sys
