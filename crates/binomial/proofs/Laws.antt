@@ -82,11 +82,6 @@ choose-lt-of-le-254 k j hk hj =
     lt-of-le-of-lt (choose-mono k 254 j hk)
     (columns (λ (i : ℕ). choose 254 i < 2 ^ 33) (lit< tt) (lit< tt) (lit< tt) (lit< tt) (lit< tt) (lit< tt) j hj)
 
--- a bound times a binomial grows with both
-pub mul-choose-mono :
-    (a a′ m m′ j : ℕ) → a ≤ a′ → m ≤ m′ → a * choose m j ≤ a′ * choose m′ j
-mul-choose-mono a a′ m m′ j ha hm = mul-le-mul ha (choose-mono m m′ j hm)
-
 -- lambda * C(k,x+1) fits 63 bits, with room
 pub mul-choose-lt : (a m j : ℕ) → a ≤ 16_777_216 → m ≤ 255 → j ≤ 5 → a * choose m j < 2 ^ 63
 mul-choose-lt a m j ha hm hj =

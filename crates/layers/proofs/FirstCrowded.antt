@@ -1,23 +1,22 @@
 -- Refusals 6 and 7 mean what document 01's table says: the place is the start of the first such row in the file. Assumes
 -- nothing.
-use Prim.Native.Nat.{ℕ, suc, _+_, _*_, _-_, _<_, _≤_}
+use Prim.Native.Nat.{ℕ, suc, _+_, _-_, _<_, _≤_}
 use native.Mathlib.Omega.{arith}
-use mathlib.Core.Path.{_≡_, refl, sym, _∙_, ap, subst}
-use mathlib.Core.Logic.{_⊎_, inl, inr}
-use mathlib.Core.Bool.{Bool, true, false, cond, not}
-use mathlib.Core.List.{List, [], _∷_, _++_}
+use mathlib.Core.Path.{_≡_, refl, _∙_, subst}
+use mathlib.Core.Bool.{Bool, true, false, cond}
+use mathlib.Core.List.{List, [], _∷_}
 use mathlib.Core.Option.{Option, none, some}
-use lib.ListN.{length, getD, drop}
-use lib.Dec.{T, ltb, leb}
+use lib.ListN.{getD}
+use lib.Dec.{T, ltb}
 use borrow.Author.Tests.{lt-ltb, le-ltb, ltb-true, ltb-false}
-use Rattle.lists.specs.Lists.{All, firstWhere}
+use Rattle.lists.specs.Lists.{All}
 use Rattle.lists.proofs.Alls.{all-getD}
 use Rattle.lists.proofs.Finds.{FoundAt, none-firstWhere, some-firstWhere}
 use Rattle.refusal.specs.declared.Refusal.{Refusal}
 use Rattle.refusal.specs.declared.Refusal.the-variants.{Ended, Trailing, BadRow, Crowded}
-use Rattle.refusal.specs.Checked.{Checked, accepted, refused, _>>=_, require}
-use Rattle.packing.specs.Rows.{inOrder, crowded, firstCrowded, firstBad}
-use Rattle.layers.specs.Layers.{Layer, LayerHead, size, sizes, allRows, layersAt, firstOf, firstCrowdedOf, refuseRow, checkRows}
+use Rattle.refusal.specs.Checked.{Checked, _>>=_}
+use Rattle.packing.specs.Rows.{crowded, firstCrowded}
+use Rattle.layers.specs.Layers.{Layer, LayerHead, size, firstOf, firstCrowdedOf}
 
 -- row i of the layers from x on, counted from their first row, holds x+1 nodes that stand together in too many rows of its
 -- own layer

@@ -1,9 +1,9 @@
 -- How many rows and bytes the layers have, and how many their numbers take. Assumes nothing.
-use Prim.Native.Nat.{ℕ, suc, _+_, _*_, _≤_, _<_}
+use Prim.Native.Nat.{ℕ, _+_, _*_, _≤_, _<_}
 use native.Mathlib.Omega.{arith}
 use native.Mathlib.Nat.{suc-mul}
-use mathlib.Core.Path.{_≡_, refl, sym, _∙_, ap}
-use mathlib.Core.List.{List, [], _∷_, _++_, map, flatten}
+use mathlib.Core.Path.{_≡_, refl, _∙_, ap}
+use mathlib.Core.List.{List, [], _∷_, map, flatten}
 use lib.ListN.{length, length-append}
 use Rattle.lists.specs.Lists.{All, total}
 use Rattle.number.specs.Numbers.{largestNumber, numberBytes}

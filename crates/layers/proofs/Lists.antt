@@ -3,7 +3,7 @@ use Prim.Native.Nat.{ℕ, _+_, _-_, _≤_}
 use native.Mathlib.Omega.{arith}
 use mathlib.Core.Path.{_≡_, refl, _∙_, ap}
 use mathlib.Core.Bool.{Bool, true, false}
-use mathlib.Core.List.{List, [], _∷_, _++_, map}
+use mathlib.Core.List.{List, _++_}
 use lib.ListN.{length, take, drop}
 use lib.Dec.{leb}
 use borrow.Author.Tests.{leb-true, leb-false}
@@ -22,14 +22,6 @@ module _ {A : Type 0} where
         drop-append-le a (take b l) (take (c - b) (drop b l)) (omega arith),
         drop-at (take b l) (take (c - b) (drop b l)) b len,
       )
-
-  pub all-both : (P Q : A → Type 0) (l : List A) → All P l → All Q l → All (λ a. P a × Q a) l
-  all-both P Q [] h g = tt
-  all-both P Q (a ∷ l) h g = ((h .0, g .0), all-both P Q l (h .1) (g .1))
-
-  pub all-of-map : {B : Type 0} (P : A → Type 0) (g : B → A) (l : List B) → All P (map g l) → All (λ b. P (g b)) l
-  all-of-map P g [] h = tt
-  all-of-map P g (b ∷ l) h = (h .0, all-of-map P g l (h .1))
 
   -- what looks only at a list's first m elements is shown for lists that have m
   pub take-elim : {B : Type 0} (f : List A → B) (m : ℕ) (l : List A) → (m ≤ length l → f (take m l) ≡ f l)

@@ -9,7 +9,7 @@ use lib.Seq.{take-all}
 use lib.Dec.{T, leb}
 use borrow.Author.Tests.{leb-true, le-leb}
 use Rattle.lists.specs.Lists.{All}
-use Rattle.lists.proofs.Alls.{all-imp}
+use Rattle.lists.proofs.Alls.{all-imp, all-both}
 use Rattle.refusal.specs.declared.Refusal.{Refusal}
 use Rattle.refusal.specs.declared.Refusal.the-variants.{Ended, Trailing, BadRow, Crowded}
 use Rattle.refusal.specs.Checked.{Checked, accepted, _>>=_}
@@ -17,7 +17,6 @@ use Rattle.refusal.proofs.Checked.{accepted-injective, refused-not-accepted, re
 use Rattle.packing.specs.Rows.{Row, inOrder, firstBad}
 use Rattle.packing.proofs.Test.{good-iff-in-order}
 use Rattle.layers.specs.Layers.{Layer, LayerHead, Packings, sizes, allRows, headsOf, layersAt, firstCrowdedOf, refuseRow, checkRows}
-use Rattle.layers.proofs.Lists.{all-both}
 use Rattle.layers.proofs.Lengths.{length-flatten-rows, length-allRows}
 use Rattle.layers.proofs.Layouts.{headsOf-layersAt, flatten-layersAt, layersAt-lengths, layersAt-flatten}
 use Rattle.layers.proofs.Packings.{packings-iff-uncrowded}

@@ -13,14 +13,14 @@ use Rattle.number.specs.declared.NumberRead.{NumberRead}
 use Rattle.number.specs.declared.NumberRead.the-variants.{Value, Refused as NotRead}
 use Rattle.number.proofs.Reading.{read-next}
 use Rattle.number.proofs.Within.{numberRead-value, read-of-readWithin}
-use Rattle.layers.specs.Layers.{Layer, LayerHead, LayerHeads, LayerLimits, size, sizes, allRows, headsOf, headNumbers, readKind, readLayers, checkRows, five}
+use Rattle.layers.specs.Layers.{Layer, LayerHead, LayerHeads, LayerLimits, size, sizes, allRows, headsOf, headNumbers, readLayers, checkRows, five}
 use Rattle.layers.specs.Answers.{refusalOf, layersRead, arrayHeads, rowsAnswer}
 use Rattle.layers.specs.declared.HeadsAnswer.the-variants.{Next, Refused}
 use Rattle.layers.specs.declared.LayersRead.{LayersRead}
 use Rattle.layers.specs.declared.RowsAnswer.{RowsAnswer}
 use Rattle.layers.specs.declared.RowsAnswer.the-variants.{Good, Refused as RowsRefused}
 use Rattle.layers.proofs.NumbersRead.{reads-le-length}
-use Rattle.layers.proofs.Heads.{HeadsWithin, read-of-readKind, reads-of-readLayers}
+use Rattle.layers.proofs.Heads.{HeadsWithin, reads-of-readLayers}
 use Rattle.layers.proofs.Lengths.{length-allRows}
 use Rattle.layers.proofs.RowsChecked.{RowsTaken, taken-of-checkRows, taken-heads}
 use Rattle.layers.proofs.Readings.{bind-not-read, bind-read}
@@ -45,12 +45,6 @@ read-limits lo hi s at read is e =
     let accept = numberRead-value (readWithin lo hi s at) (sym e ∙ is) in
     let (number, low, high) = read-of-readWithin lo hi s at accept in
     (low, high, read-next s at number .2)
-
-pub kind-end : (kind : ℕ) (s : List ℕ) (read : NumberRead) {v next : ℕ} → read ≡ numberRead (readKind kind s) → read
-    ≡ Value v next
-    → next ≤ length s
-kind-end kind s read is e =
-    read-next s 0 (read-of-readKind kind s (numberRead-value (readKind kind s) (sym e ∙ is))) .2
 
 -- The layers' numbers were read: their heads, as the arrays have them, and the next place.
 pub record LayersTaken (limits : LayerLimits) (layers room : ℕ) (s : List ℕ) (at : ℕ) (bound size : List ℕ)

@@ -6,7 +6,7 @@ use mathlib.Core.List.{List, [], _∷_, flatten}
 use mathlib.Core.Option.{none, some}
 use Rattle.lists.specs.Lists.{count, every, any, firstWhere, total}
 use Rattle.refusal.specs.declared.Refusal.the-variants.{Ended, Trailing, BadRow, Crowded}
-use Rattle.refusal.specs.Checked.{Checked, accepted, refused}
+use Rattle.refusal.specs.Checked.{Checked, refused}
 use Rattle.packing.specs.Rows.{ascending, rowsAt, member, holds, together, subsets, crowded, firstCrowded, firstBad}
 use Rattle.layers.specs.Layers.{Layer, LayerHead, layersAt, firstCrowdedOf, checkRows}
 

@@ -5,7 +5,6 @@ use mathlib.Core.Path.{_≡_, refl, sym, subst}
 use mathlib.Core.Bool.{Bool, true, false, _||_, true≢false}
 use mathlib.Core.List.{List, [], _∷_, List·Memᴰ, List·Memᴰ·head, List·Memᴰ·tail}
 use mathlib.Core.Option.{some}
-use lib.ListN.{length, getD}
 use lib.Dec.{T}
 use Rattle.lists.specs.Lists.{All, tally, count, any, firstWhere}
 use Rattle.lists.proofs.Tests.{true-T, or-left, or-right}

@@ -92,11 +92,6 @@ form-bytes {v} p = rw (p .1) (groups-bytes 3 v (fits-four v (p .0)))
 pub form-numberBytes : (v : ℕ) → v ≤ largestNumber → Form v (numberBytes v)
 form-numberBytes v h = (h, refl)
 
--- How many groups a number has.
-pub numberBytes-length-pos : (v : ℕ) → 1 ≤ length (numberBytes v)
-unfolding numberBytes
-numberBytes-length-pos v = groups-length-pos 3 v
-
 pub numberBytes-length-one : (v : ℕ) → v < 128 → length (numberBytes v) ≡ 1
 unfolding numberBytes
 numberBytes-length-one v h = ap length (groups-small 3 v h)
@@ -104,10 +99,6 @@ numberBytes-length-one v h = ap length (groups-small 3 v h)
 pub numberBytes-length-le-two : (v : ℕ) → v < 16384 → length (numberBytes v) ≤ 2
 unfolding numberBytes
 numberBytes-length-le-two v h = groups-length-le 1 3 v h (omega arith)
-
-pub numberBytes-length-le-three : (v : ℕ) → v < 2097152 → length (numberBytes v) ≤ 3
-unfolding numberBytes
-numberBytes-length-le-three v h = groups-length-le 2 3 v h (omega arith)
 
 pub numberBytes-length-le-four : (v : ℕ) → v ≤ largestNumber → length (numberBytes v) ≤ 4
 unfolding numberBytes

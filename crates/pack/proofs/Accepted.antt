@@ -5,13 +5,12 @@ use mathlib.Core.Path.{_≡_, sym, _∙_, subst}
 use mathlib.Core.Logic.{_↔_}
 use mathlib.Core.List.{List}
 use lib.ListN.{length-map}
-use Rattle.lists.proofs.Alls.{all-map}
+use Rattle.lists.proofs.Alls.{all-map, all-of-map}
 use Rattle.refusal.specs.Checked.{accepted}
 use Rattle.refusal.proofs.Checked.{accepted-injective, bind-elim}
 use Rattle.number.specs.Numbers.{Bytes, Reading, readWithin}
 use Rattle.number.proofs.Within.{read-of-readWithin, readWithin-accepted}
 use Rattle.layers.specs.Layers.{Layer, headsOf, readKind, readLayers, checkRows}
-use Rattle.layers.proofs.Lists.{all-of-map}
 use Rattle.layers.proofs.Heads.{HeadsWithin, read-of-readKind, readKind-accepted}
 use Rattle.layers.proofs.Files.{FileRead, LayersRead, file-read, read-file, read-of-layers, heads-accepted, rows-accepted}
 use Rattle.pack.specs.Pack.{Pack, PackFile, PackLimits, GoodPack, packNumbers, packLayerLimits, checkPack}

@@ -8,14 +8,13 @@ use mathlib.Core.List.{List}
 use lib.ListN.{length-map}
 use lib.Dec.{eqb}
 use borrow.Author.Tests.{eqb-true, eq-eqb}
-use Rattle.lists.proofs.Alls.{all-map, all-imp}
+use Rattle.lists.proofs.Alls.{all-map, all-of-map, all-imp}
 use Rattle.refusal.specs.declared.Refusal.the-variants.{WrongFigure}
 use Rattle.refusal.specs.Checked.{accepted}
 use Rattle.refusal.proofs.Checked.{accepted-injective, bind-elim, require-bind-accepted}
 use Rattle.number.specs.Numbers.{Bytes, Reading, readWithin}
 use Rattle.number.proofs.Within.{read-of-readWithin, readWithin-accepted}
 use Rattle.layers.specs.Layers.{Layer, LayerHead, sizes, headsOf, readKind, readLayers, checkRows}
-use Rattle.layers.proofs.Lists.{all-of-map}
 use Rattle.layers.proofs.Heads.{SizesFit, HeadsWithin, read-of-readKind, readKind-accepted}
 use Rattle.layers.proofs.Files.{FileRead, LayersRead, file-read, read-file, read-of-layers, heads-accepted, rows-accepted}
 use Rattle.placement.specs.Figure.{figureOf}

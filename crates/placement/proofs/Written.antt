@@ -1,8 +1,8 @@
 -- A good placement's bytes are its file, and at most 64 of them stand before the rows. Assumes nothing.
 use Prim.Native.Nat.{ℕ, _+_, _*_, _-_, _≤_, _<_}
 use native.Mathlib.Omega.{arith}
-use mathlib.Core.Path.{_≡_, refl, sym, _∙_, ap, subst}
-use mathlib.Core.List.{List, [], _∷_, _++_, map, flatten}
+use mathlib.Core.Path.{_≡_, refl, _∙_, ap}
+use mathlib.Core.List.{List, map, flatten}
 use lib.ListN.{length, length-append}
 use lib.Dec.{T, ltb, ltb→lt}
 use Rattle.lists.specs.Lists.{All, every}
@@ -11,10 +11,10 @@ use Rattle.lists.proofs.Tests.{and-right}
 use Rattle.number.specs.Numbers.{Bytes, Forms, largestNumber, numberBytes}
 use Rattle.number.proofs.Reading.{numberBytes-length-one, numberBytes-length-le-two}
 use Rattle.number.proofs.Forms.{forms-of, forms-bytes}
-use Rattle.packing.specs.Rows.{Row, ascending, inOrder}
-use Rattle.layers.specs.Layers.{Layer, sizes, allRows, headsOf, headNumbers}
+use Rattle.packing.specs.Rows.{Row, ascending}
+use Rattle.layers.specs.Layers.{Layer, allRows}
 use Rattle.layers.proofs.Lengths.{length-flatten-rows, length-allRows, length-headNumbers, headNumbers-most}
-use Rattle.placement.specs.Figure.{losses, figureOf}
+use Rattle.placement.specs.Figure.{figureOf}
 use Rattle.placement.specs.Placement.{Placement, PlacementLimits, GoodPlacement, placementNumbers, PlacementFile, placementBytes}
 
 -- a row's nodes are bytes

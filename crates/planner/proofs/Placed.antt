@@ -3,18 +3,18 @@ use Prim.Native.Nat.{ℕ, zero, suc, _+_, _*_, _≤_, _<_, suc-le-suc}
 use native.Mathlib.Omega.{arith}
 use native.Mathlib.Nat.{not-suc-le-zero, le-of-suc-le-suc, zero-lt-suc, add-zero, suc-add, add-suc}
 use mathlib.Core.Path.{_≡_, refl, sym, _∙_, ap, subst}
-use mathlib.Core.List.{List, [], _∷_, _++_, map, flatten}
-use lib.ListN.{length, getD}
+use mathlib.Core.List.{List, [], _∷_, map, flatten}
+use lib.ListN.{length}
 use Rattle.lists.specs.Lists.{All, upTo}
 use Rattle.lists.proofs.Alls.{all-append-left, all-append-right, all-map, all-flatten}
 use Rattle.lists.proofs.UpTo.{length-map-upTo, all-upTo, getD-map-upTo, map-upTo-congr}
-use Rattle.packing.specs.Rows.{Row, Packing, repeated}
+use Rattle.packing.specs.Rows.{Row, Packing}
 use Rattle.packing.proofs.Copies.{copies-packing, repeated-rows, length-repeated}
-use Rattle.layers.specs.Layers.{Layer, LayerHead, size, sizes, allRows, headsOf, Packings}
+use Rattle.layers.specs.Layers.{Layer, LayerHead, size, allRows, headsOf, Packings}
 use Rattle.pack.specs.Pack.{Pack, PackLimits, GoodPack}
 use Rattle.placement.specs.Figure.{figureOf}
 use Rattle.placement.specs.Placement.{Placement, PlacementLimits, GoodPlacement}
-use Rattle.split.specs.Splits.{Share, layerAt, shareHead, splitHeads, Split, splitFigure}
+use Rattle.split.specs.Splits.{Share, layerAt, shareHead, splitHeads, Split}
 use Rattle.planner.specs.Planning.{blocksAt, placed, splitPlacement, OrderLimits}
 
 -- map after map

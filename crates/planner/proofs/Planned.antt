@@ -1,16 +1,16 @@
 -- Demand 3 over the definitions: what planning gives for an accepted pack and an order within limits. Assumes nothing.
-use Prim.Native.Nat.{ℕ, _+_, _*_, _≤_, _<_}
+use Prim.Native.Nat.{ℕ, _*_, _≤_, _<_}
 use native.Mathlib.Omega.{arith}
-use mathlib.Core.Path.{_≡_, refl, sym, _∙_, ap}
-use mathlib.Core.Bool.{Bool, true, _&&_}
+use mathlib.Core.Path.{_≡_}
+use mathlib.Core.Bool.{Bool}
 use mathlib.Core.List.{List}
 use lib.ListN.{length}
-use lib.Dec.{T, leb, ltb}
+use lib.Dec.{T}
 use borrow.Author.Tests.{le-leb, lt-ltb}
 use Rattle.lists.specs.Lists.{All}
 use Rattle.lists.proofs.Tests.{true-T}
 use Rattle.lists.proofs.Alls.{all-imp}
-use Rattle.refusal.specs.Checked.{Checked, accepted, refused, _>>=_, require}
+use Rattle.refusal.specs.Checked.{Checked, accepted, _>>=_}
 use Rattle.number.specs.Numbers.{Bytes}
 use Rattle.packing.specs.Failures.{Failure, usable}
 use Rattle.layers.specs.Layers.{Layer, allRows, headsOf}

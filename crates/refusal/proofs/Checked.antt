@@ -26,10 +26,6 @@ module _ {A B : Type 0} where
   bind-elim (accepted a) f e k = k a refl e
   bind-elim (refused r) f e k = absurd (refused-not-accepted e)
 
-  pub accepted-bind : (m : Checked A) (f : A → Checked B) {a : A} {b : B} → m ≡ accepted a → f a ≡ accepted b
-      → (m >>= f) ≡ accepted b
-  accepted-bind m f e g = rw e g
-
   -- two chains are equal where the first checks are, and what follows is on whatever was accepted
   pub bind-congr : (m m′ : Checked A) (f g : A → Checked B) → m ≡ m′ → ((a : A) → m ≡ accepted a → f a ≡ g a)
       → (m >>= f) ≡ (m′ >>= g)
@@ -43,16 +39,9 @@ pub require-accepted : (b : Bool) (e : Refusal) {u : Unit} → require b e ≡ a
 require-accepted true e p = refl
 require-accepted false e p = absurd (refused-not-accepted p)
 
-pub accepted-require : (b : Bool) (e : Refusal) → b ≡ true → require b e ≡ accepted tt
-accepted-require b e p = rw p
-
 module _ {B : Type 0} where
   -- what follows a required test is met only where the test passed
   pub require-bind-accepted : (t : Bool) (e : Refusal) (f : Unit → Checked B) {b : B} → (require t e >>= f) ≡ accepted b
       → (t ≡ true) × (f tt ≡ accepted b)
   require-bind-accepted true e f p = (refl, p)
   require-bind-accepted false e f p = absurd (refused-not-accepted p)
-
-  pub accepted-require-bind : (t : Bool) (e : Refusal) (f : Unit → Checked B) {b : B} → t ≡ true → f tt ≡ accepted b
-      → (require t e >>= f) ≡ accepted b
-  accepted-require-bind t e f p q = rw p q
