@@ -1,0 +1,85 @@
+-- How tails lie in arrays. A position is the place of a byte of the rows, and stands for the tail of the nodes after it in
+-- its row. The positions of one node are a chain: its first in `heads`, its length in `counts`, and the others through
+-- `next`. Assumes nothing.
+use Prim.Native.Nat.{ℕ, zero, suc, _+_, _-_, _*_, _/_, _≤_, _<_, min}
+use mathlib.Core.Path.{_≡_}
+use mathlib.Core.Bool.{cond}
+use mathlib.Core.List.{List, [], _∷_, map}
+use lib.ListN.{length, getD, take, drop}
+use lib.Dec.{eqb}
+use Rattle.lists.specs.Lists.{All}
+use Rattle.crowding.specs.Tails.{Tail}
+
+-- the end of the row that position p is in
+abbrev pub rowEnd : (r p : ℕ) → ℕ
+rowEnd r p = (p / r + 1) * r
+
+-- the tail after position p
+abbrev pub tailAt : (r : ℕ) (rows : List ℕ) (p : ℕ) → Tail
+tailAt r rows p = record { row = p / r; nodes = take (rowEnd r p - (p + 1)) (drop (p + 1) rows) }
+
+abbrev pub tailsAt : (r : ℕ) (rows chain : List ℕ) → List Tail
+tailsAt r rows chain = map (tailAt r rows) chain
+
+-- n positions from p on, each named by the one before it
+unfoldable pub follow : (n : ℕ) (next : List ℕ) (p : ℕ) → List ℕ
+follow zero next p = []
+follow (suc n) next p = p ∷ follow n next (getD next p 0)
+
+-- the chain of node v
+abbrev pub chain : (heads counts next : List ℕ) (v : ℕ) → List ℕ
+chain heads counts next v = follow (getD counts v 0) next (getD heads v 0)
+
+-- the chain of node v after the n positions from f on are linked
+unfoldable pub linked : (rows : List ℕ) (v f n : ℕ) (found : List ℕ) → List ℕ
+linked rows v f zero found = found
+linked rows v f (suc n) found = linked rows v (suc f) n (cond (eqb v (getD rows f 0)) (f ∷ found) found)
+
+-- the least of `least` and the positions' row numbers
+unfoldable pub lowestAt : (r least : ℕ) → List ℕ → ℕ
+lowestAt r least [] = least
+lowestAt r least (p ∷ chain) = lowestAt r (min least (p / r)) chain
+
+-- p is not one of the positions from `from` to `to`
+abbrev pub Outside : (from to p : ℕ) → Type 0
+Outside from to p = from ≤ p → to ≤ p
+
+-- no two of the positions are in one row
+abbrev pub Apart : (r : ℕ) → List ℕ → Type 0
+Apart r [] = Unit
+Apart r (p ∷ chain) = All (λ q. q / r ≡ p / r → ⊥) chain × Apart r chain
+
+-- positions of node v in whole rows, no two in one row
+abbrev pub Chained : (r : ℕ) (rows : List ℕ) (v : ℕ) → List ℕ → Type 0
+Chained r rows v chain = All (λ p. (rowEnd r p ≤ length rows) × (getD rows p 0 ≡ v)) chain × Apart r chain
+
+-- every whole row ascends
+abbrev pub Ascends : (r : ℕ) → List ℕ → Type 0
+Ascends r rows = (p q : ℕ) → p < q → q < rowEnd r p → rowEnd r p ≤ length rows → getD rows p 0 < getD rows q 0
+
+-- every chain is at most m long, and those of the nodes up to v are empty
+abbrev pub AtMost : (m : ℕ) (counts : List ℕ) → Type 0
+AtMost m counts = (v : ℕ) → getD counts v 0 ≤ m
+
+abbrev pub EmptyTo : (v : ℕ) (counts : List ℕ) → Type 0
+EmptyTo v counts = (u : ℕ) → u ≤ v → getD counts u 0 ≡ 0
+
+-- none of the positions from `from` to `to` is in a chain
+abbrev pub Fresh : (from to : ℕ) (heads counts next : List ℕ) → Type 0
+Fresh from to heads counts next = (v : ℕ) → All (Outside from to) (chain heads counts next v)
+
+-- each node's chain is as it should be
+abbrev pub AllChained : (r : ℕ) (rows heads counts next : List ℕ) → Type 0
+AllChained r rows heads counts next = (v : ℕ) → Chained r rows v (chain heads counts next v)
+
+-- `last` names the same as `next` for a position outside, and for one whose node is at most v
+abbrev pub KeptOutside : (from to : ℕ) (next last : List ℕ) → Type 0
+KeptOutside from to next last = (p : ℕ) → Outside from to p → getD last p 0 ≡ getD next p 0
+
+abbrev pub KeptTo : (v : ℕ) (rows next last : List ℕ) → Type 0
+KeptTo v rows next last = (p : ℕ) → getD rows p 0 ≤ v → getD last p 0 ≡ getD next p 0
+
+-- each node's chain has the linked positions in front
+abbrev pub Linked : (rows : List ℕ) (from n : ℕ) (heads counts next heads′ counts′ next′ : List ℕ) → Type 0
+Linked rows from n heads counts next heads′ counts′ next′ =
+    (v : ℕ) → chain heads′ counts′ next′ v ≡ linked rows v from n (chain heads counts next v)

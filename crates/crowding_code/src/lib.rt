@@ -1,0 +1,71 @@
+// The packing test on rows in bytes, by sets that grow a node at a time.
+ghost use mathlib.Core.Path.{_≡_};
+ghost use mathlib.Core.List.{_++_};
+ghost use Prim.Native.Nat.{ℕ, suc, _+_, _*_, _-_, _≤_, _<_, min};
+ghost use lib.ListN.{length, getD};
+ghost use Rattle.lists.specs.Lists.{All};
+ghost use Rattle.packing.specs.Rows.{rowsAt};
+ghost use Rattle.crowding.specs.Tails.{tailsAfter, overNodes, lowestCrowded, rowTails};
+ghost use Rattle.crowding_code.specs.Chains.{follow, lowestAt, AtMost, Fresh, Linked, KeptOutside};
+
+fn lesser(a: usize, b: usize) -> usize
+    ensures { λ r. ⌜ r ≡ min a b ⌝ }
+{
+    if a <= b { a } else { b }
+}
+
+fn larger(a: u16, b: u16) -> u16
+    ensures { λ r. ⌜ (a ≤ r) × (b ≤ r) ⌝ }
+{
+    if a <= b { b } else { a }
+}
+
+// Puts each of the positions from `from` to `to` at the front of its node's chain; no chain is longer than the result.
+fn link(
+    rows: &[u8],
+    from: usize,
+    to: usize,
+    heads: &mut [u16],
+    counts: &mut [u16],
+    next: &mut [u16],
+    most: u16,
+) -> u16
+    requires room { ⌜ (to ≤ length (now rows)) × (length (now rows) ≤ length (now next)) × (length (now rows) ≤ 65535) ⌝ }
+    requires level { ⌜ (length (now heads) ≡ 256) × (length (now counts) ≡ 256) ⌝ }
+    requires few { ⌜ (to - from ≤ 5) × AtMost 65530 (now counts) × AtMost most (now counts) ⌝ }
+    requires fresh { ⌜ Fresh from to (now heads) (now counts) (now next) ⌝ }
+    ensures chains { λ m.
+        ⌜ Linked (now (rows .entry)) from (to - from) (now (heads .entry)) (now (counts .entry)) (now (next .entry))
+            (now (heads .exit)) (now (counts .exit)) (now (next .exit)) ⌝ }
+    ensures most { λ m. ⌜ AtMost m (now (counts .exit)) ⌝ }
+    ensures kept { λ m. ⌜ KeptOutside from to (now (next .entry)) (now (next .exit)) ⌝ }
+{
+    let mut f = from;
+    let mut longest = most;
+    while f < to {
+        let v = rows[f] as usize;
+        next[f] = heads[v];
+        heads[v] = f as u16;
+        let n = counts[v] + 1;
+        counts[v] = n;
+        longest = larger(longest, n);
+        f += 1;
+    }
+    longest
+}
+
+// The least of `least` and the row numbers of a chain's positions.
+fn lowest(r: usize, head: u16, count: u16, next: &[u16], least: usize) -> usize
+    requires { ⌜ (0 < r) × All (λ p. p < length (now next)) (follow count (now next) head) ⌝ }
+    ensures { λ n. ⌜ n ≡ lowestAt r least (follow count (now (next .entry)) head) ⌝ }
+{
+    let mut p = head as usize;
+    let mut n = count;
+    let mut low = least;
+    while n > 0 {
+        low = lesser(low, p / r);
+        p = next[p] as usize;
+        n -= 1;
+    }
+    low
+}
