@@ -18,6 +18,12 @@ unfolding follow
 length-follow zero next p = refl
 length-follow (suc n) next p = ap suc (length-follow n next (getD next p 0))
 
+pub chain-empty : (heads counts next : List ℕ) (v : ℕ) → getD counts v 0 ≤ 0 → chain heads counts next v ≡ []
+unfolding follow
+chain-empty heads counts next v h =
+    let e : getD counts v 0 ≡ 0 = omega arith in
+    rw e
+
 -- a chain's first position, and the chain after it
 pub follow-next : (n : ℕ) (next : List ℕ) (p : ℕ) → 0 < n → follow n next p ≡ p ∷ follow (n - 1) next (getD next p 0)
 unfolding follow

@@ -1,1 +1,3 @@
 pub mod Follow
+pub mod Rows
+pub mod Walks

@@ -8,7 +8,7 @@ use mathlib.Core.List.{List, [], _∷_, map}
 use lib.ListN.{length, getD, take, drop}
 use lib.Dec.{eqb}
 use Rattle.lists.specs.Lists.{All}
-use Rattle.crowding.specs.Tails.{Tail}
+use Rattle.crowding.specs.Tails.{Tail, tailsAfter, overNodes, lowestCrowded}
 
 -- the end of the row that position p is in
 abbrev pub rowEnd : (r p : ℕ) → ℕ
@@ -49,9 +49,13 @@ abbrev pub Apart : (r : ℕ) → List ℕ → Type 0
 Apart r [] = Unit
 Apart r (p ∷ chain) = All (λ q. q / r ≡ p / r → ⊥) chain × Apart r chain
 
--- positions of node v in whole rows, no two in one row
+-- p is a position of node v in a whole row
+abbrev pub Placed : (r : ℕ) (rows : List ℕ) (v p : ℕ) → Type 0
+Placed r rows v p = (rowEnd r p ≤ length rows) × (getD rows p 0 ≡ v)
+
+-- positions of node v, no two in one row
 abbrev pub Chained : (r : ℕ) (rows : List ℕ) (v : ℕ) → List ℕ → Type 0
-Chained r rows v chain = All (λ p. (rowEnd r p ≤ length rows) × (getD rows p 0 ≡ v)) chain × Apart r chain
+Chained r rows v chain = All (Placed r rows v) chain × Apart r chain
 
 -- every whole row ascends
 abbrev pub Ascends : (r : ℕ) → List ℕ → Type 0
@@ -83,3 +87,16 @@ KeptTo v rows next last = (p : ℕ) → getD rows p 0 ≤ v → getD last p 0 �
 abbrev pub Linked : (rows : List ℕ) (from n : ℕ) (heads counts next heads′ counts′ next′ : List ℕ) → Type 0
 Linked rows from n heads counts next heads′ counts′ next′ =
     (v : ℕ) → chain heads′ counts′ next′ v ≡ linked rows v from n (chain heads counts next v)
+
+-- each node's chain holds the tails after that node
+abbrev pub Grown : (w : ℕ) (tails : List Tail) (r : ℕ) (rows heads counts next : List ℕ) → Type 0
+Grown w tails r rows heads counts next = (v : ℕ) → tailsAt r rows (chain heads counts next v) ≡ tailsAfter w v tails []
+
+-- the least of `least` and the row numbers that are crowded in one of the chains
+abbrev pub lowestChild : (w bound r : ℕ) (rows heads counts next : List ℕ) (least : ℕ) → ℕ
+lowestChild w bound r rows heads counts next least =
+    overNodes (λ v least. lowestCrowded w bound (tailsAt r rows (chain heads counts next v)) least) 256 least
+
+-- what is kept where only nodes that have a chain are visited
+abbrev pub KeptBelow : (rows counts next last : List ℕ) → Type 0
+KeptBelow rows counts next last = (v : ℕ) → EmptyTo v counts → KeptTo v rows next last

@@ -6,7 +6,7 @@ ghost use lib.ListN.{length, getD};
 ghost use Rattle.lists.specs.Lists.{All};
 ghost use Rattle.packing.specs.Rows.{rowsAt};
 ghost use Rattle.crowding.specs.Tails.{tailsAfter, overNodes, lowestCrowded, rowTails};
-ghost use Rattle.crowding_code.specs.Chains.{follow, lowestAt, AtMost, Fresh, Linked, KeptOutside};
+ghost use Rattle.crowding_code.specs.Chains.{tailsAt, follow, lowestAt, Chained, Ascends, AtMost, EmptyTo, Fresh, AllChained, Linked, Grown, KeptOutside, KeptTo};
 
 fn lesser(a: usize, b: usize) -> usize
     ensures { λ r. ⌜ r ≡ min a b ⌝ }
@@ -52,6 +52,77 @@ fn link(
         f += 1;
     }
     longest
+}
+
+// Links, for each position of a chain, those after it in its row that leave w nodes.
+fn link_tails(
+    rows: &[u8],
+    r: usize,
+    w: usize,
+    head: u16,
+    count: u16,
+    heads: &mut [u16],
+    counts: &mut [u16],
+    next: &mut [u16],
+) -> u16
+    requires room { ⌜ (w < r) × (r ≤ 5) × (length (now rows) ≤ length (now next)) × (length (now rows) ≤ 65535) × (count ≤ 65530) ⌝ }
+    requires level { ⌜ (length (now heads) ≡ 256) × (length (now counts) ≡ 256) × AtMost 0 (now counts) ⌝ }
+    requires order { ⌜ Ascends r (now rows) ⌝ }
+    requires chained { ⌜ Chained r (now rows) (getD (now rows) head 0) (follow count (now next) head) ⌝ }
+    ensures grown { λ m.
+        ⌜ Grown w (tailsAt r (now (rows .entry)) (follow count (now (next .entry)) head)) r (now (rows .entry)) (now (heads .exit))
+            (now (counts .exit)) (now (next .exit)) ⌝ }
+    ensures chained { λ m.
+        ⌜ AllChained r (now (rows .entry)) (now (heads .exit)) (now (counts .exit)) (now (next .exit)) ⌝ }
+    ensures few { λ m.
+        ⌜ AtMost m (now (counts .exit)) × AtMost count (now (counts .exit))
+            × EmptyTo (getD (now (rows .entry)) head 0) (now (counts .exit)) ⌝ }
+    ensures kept { λ m.
+        ⌜ KeptTo (getD (now (rows .entry)) head 0) (now (rows .entry)) (now (next .entry)) (now (next .exit)) ⌝ }
+{
+    let mut p = head as usize;
+    let mut n = count;
+    let mut most: u16 = 0;
+    while n > 0 {
+        let after = next[p];
+        let end = (p / r + 1) * r;
+        most = link(rows, p + 1, end - w, heads, counts, next, most);
+        p = after as usize;
+        n -= 1;
+    }
+    most
+}
+
+// Links the positions of every row that leave w nodes.
+fn link_rows(
+    rows: &[u8],
+    c: usize,
+    r: usize,
+    w: usize,
+    heads: &mut [u16],
+    counts: &mut [u16],
+    next: &mut [u16],
+) -> u16
+    requires room { ⌜ (w < r) × (r ≤ 5) × (c ≤ 4096) × (length (now rows) ≡ c * r) × (length (now rows) ≤ length (now next)) ⌝ }
+    requires level { ⌜ (length (now heads) ≡ 256) × (length (now counts) ≡ 256) × AtMost 0 (now counts) ⌝ }
+    requires order { ⌜ Ascends r (now rows) ⌝ }
+    ensures grown { λ m.
+        ⌜ Grown w (rowTails 0 (rowsAt r c (now (rows .entry)))) r (now (rows .entry)) (now (heads .exit)) (now (counts .exit))
+            (now (next .exit)) ⌝ }
+    ensures chained { λ m.
+        ⌜ AllChained r (now (rows .entry)) (now (heads .exit)) (now (counts .exit)) (now (next .exit)) ⌝ }
+    ensures few { λ m. ⌜ AtMost m (now (counts .exit)) × AtMost c (now (counts .exit)) ⌝ }
+{
+    let mut i: usize = 0;
+    let mut start: usize = 0;
+    let mut most: u16 = 0;
+    while i < c {
+        let end = start + r;
+        most = link(rows, start, end - w, heads, counts, next, most);
+        start = end;
+        i += 1;
+    }
+    most
 }
 
 // The least of `least` and the row numbers of a chain's positions.
