@@ -16,7 +16,7 @@ length-after-le w v (t ∷ tails) found =
     (λ e. omega (arith, length-after-le w v tails (record { row = t .row; nodes = past v (t .nodes) } ∷ found)))
     (λ e. omega (arith, length-after-le w v tails found))
 
-over-nodes-same : (step : ℕ → ℕ → ℕ) → ((v least : ℕ) → step v least ≡ least) → (n least : ℕ) → overNodes step n least ≡ least
+pub over-nodes-same : (step : ℕ → ℕ → ℕ) → ((v least : ℕ) → step v least ≡ least) → (n least : ℕ) → overNodes step n least ≡ least
 unfolding overNodes
 over-nodes-same step same zero least = refl
 over-nodes-same step same (suc v) least = over-nodes-same step same v (step v least) ∙ same v least

@@ -1,3 +1,4 @@
 pub mod Follow
 pub mod Rows
 pub mod Walks
+pub mod Roots

@@ -1,3 +1,14 @@
+-- `crowding_code::link_rows` meets its contract: a walk through the rows. Assumes nothing.
+use Prim.Native.Nat.{ℕ, _+_, _-_, _*_, _≤_, _<_}
+use mathlib.Core.Path.{_≡_, refl, sym, _∙_}
+use mathlib.Core.List.{List, []}
+use native.Mathlib.Nat.{mul-le-mul}
+use lib.ListN.{length}
+use Rattle.packing.specs.Rows.{rowsAt}
+use Rattle.crowding.specs.Tails.{Tail, tailsAfter, rowTails}
+use Rattle.crowding_code.specs.Chains.{AtMost}
+use Rattle.crowding_code.proofs.Walks.{chain-longer}
+use Rattle.crowding_code.proofs.Roots.{Root, root-start, root-end, root-fresh, root-next, row-whole, link-row}
 use native.Mathlib.Omega.{arith}
 use borrow.Author.Needs.{needs}
 use Rattle.crowding_code.proofs.link_rows.Statement.{statement}
@@ -7,26 +18,74 @@ use Rattle.crowding_code.proofs.link_rows.Lts as lts
 use Rattle.crowding_code.proofs.link.Reads as link-reads
 
 abbrev Inv-loop : tie.InvT-loop
-Inv-loop rows c r w heads₀ counts₀ next₀ i₀ start₀ most₀ heads counts next i start most = ?
+Inv-loop rows c r w heads₀ counts₀ next₀ i₀ start₀ most₀ heads counts next i start most =
+    (i ≤ c) × (start ≡ i * r) × (length heads ≡ 256) × (length counts ≡ 256) × (length next ≡ length next₀) × AtMost i counts
+    × AtMost most counts
+    × Root r w c rows (λ u. tailsAfter w u (rowTails 0 (rowsAt r c rows)) []) heads counts next i start
 
 abbrev μ-loop : tie.MeasureT-loop
-μ-loop rows c r w heads₀ counts₀ next₀ i₀ start₀ most₀ heads counts next i start most = ?
+μ-loop rows c r w heads₀ counts₀ next₀ i₀ start₀ most₀ heads counts next i start most = c - i
 
 -- src/lib.rt:119:5
 loop-holds : tie.Need-loop-holds Inv-loop μ-loop
-loop-holds c = search needs
+loop-holds c =
+    let g = c .before .before .before .before .args in
+    let pre = c .before .before .before .before .pre in (
+      omega arith,
+      omega arith,
+      pre .1 .0 .0,
+      pre .1 .0 .1,
+      refl,
+      pre .1 .0 .2,
+      pre .1 .0 .2,
+      root-start (g .r) (g .w) (g .c) (g .rows .now) (g .heads .now) (g .counts .now) (g .next .now) (pre .1 .0 .2),
+    )
 
 -- src/lib.rt:120:19
 add-end : tie.Need-add-end Inv-loop μ-loop
-add-end c = search needs
+add-end c =
+    let l = c .before .loop in
+    let g = c .before .before .before .before .before .before .args in
+    let pre = c .before .before .before .before .before .before .pre in
+    let goal : ℕ → List Tail = λ u. tailsAfter (g .w) u (rowTails 0 (rowsAt (g .r) (g .c) (g .rows .now))) [] in
+    let lt = c .loop-test .taken in
+    let pos : 0 < g .r = omega (arith, pre .0) in
+    let whole = row-whole (g .r) (g .w) (g .c) (g .rows .now) pos (pre .1 .1) (pre .0 .3) (l .i) (l .start) lt (l .inv .1) goal (l .heads) (l .counts) (l .next) (l .inv .7) in
+    omega (arith, whole, mul-le-mul {n₁ = g .c} {m₁ = g .r} {n₂ = 4096} {m₂ = 5} (pre .0 .2) (pre .0 .1))
 
 -- src/lib.rt:121:34
 sub-link : tie.Need-sub-link Inv-loop μ-loop
-sub-link c = search needs
+sub-link c =
+    let l = c .before .loop in
+    let g = c .before .before .before .before .before .before .args in
+    let pre = c .before .before .before .before .before .before .pre in
+    let goal : ℕ → List Tail = λ u. tailsAfter (g .w) u (rowTails 0 (rowsAt (g .r) (g .c) (g .rows .now))) [] in
+    let lt = c .loop-test .taken in
+    let pos : 0 < g .r = omega (arith, pre .0) in
+    let whole = row-whole (g .r) (g .w) (g .c) (g .rows .now) pos (pre .1 .1) (pre .0 .3) (l .i) (l .start) lt (l .inv .1) goal (l .heads) (l .counts) (l .next) (l .inv .7) in
+    omega (arith, pre .0)
 
 -- src/lib.rt:121:9
 link-requires : tie.Need-link-requires Inv-loop μ-loop
-link-requires c κs = search needs
+link-requires c κs =
+    let l = c .before .before .before .before .loop in
+    let g = c .before .before .before .before .before .before .before .before .before .args in
+    let pre = c .before .before .before .before .before .before .before .before .before .pre in
+    let goal : ℕ → List Tail = λ u. tailsAfter (g .w) u (rowTails 0 (rowsAt (g .r) (g .c) (g .rows .now))) [] in
+    let lt = c .before .before .before .loop-test .taken in
+    let pos : 0 < g .r = omega (arith, pre .0) in
+    let whole = row-whole (g .r) (g .w) (g .c) (g .rows .now) pos (pre .1 .1) (pre .0 .3) (l .i) (l .start) lt (l .inv .1) goal (l .heads) (l .counts) (l .next) (l .inv .7) in
+    (
+      (omega (arith, whole), omega (arith, pre .0), omega (arith, mul-le-mul {n₁ = g .c} {m₁ = g .r} {n₂ = 4096} {m₂ = 5} (pre .0 .2) (pre .0 .1), pre .0)),
+      (
+        (l .inv .2, l .inv .3),
+        (
+          (omega (arith, pre .0), λ u. omega (arith, l .inv .5 u, pre .0), l .inv .6),
+          root-fresh (g .r) (g .w) (g .c) (g .rows .now) pos (pre .1 .1) (pre .0 .3) (l .i) (l .start) lt (l .inv .1) goal (l .heads) (l .counts)
+              (l .next) (l .inv .7),
+        ),
+      ),
+    )
 
 -- src/lib.rt:123:9
 add-i : tie.Need-add-i Inv-loop μ-loop
@@ -38,23 +97,58 @@ loop-less c = search needs
 
 -- src/lib.rt:119:5
 loop-again : tie.Need-loop-again Inv-loop μ-loop
-loop-again c = search needs
+loop-again c =
+    let l = c .before .before .before .before .before .before .before .before .before .before .before .loop in
+    let g = c .before .before .before .before .before .before .before .before .before .before .before .before .before .before .before .before .args in
+    let pre = c .before .before .before .before .before .before .before .before .before .before .before .before .before .before .before .before .pre in
+    let goal : ℕ → List Tail = λ u. tailsAfter (g .w) u (rowTails 0 (rowsAt (g .r) (g .c) (g .rows .now))) [] in
+    let lt = c .before .before .before .before .before .before .before .before .before .before .loop-test .taken in
+    let pos : 0 < g .r = omega (arith, pre .0) in
+    let whole = row-whole (g .r) (g .w) (g .c) (g .rows .now) pos (pre .1 .1) (pre .0 .3) (l .i) (l .start) lt (l .inv .1) goal (l .heads) (l .counts) (l .next) (l .inv .7) in
+    let called = c .before .before .before .before .before .before .link in
+    let heads = called .last .1 .1 .1 .0 in
+    let counts = called .last .1 .1 .1 .1 .0 in
+    let next = called .last .1 .1 .1 .1 .1 .0 in
+    let link = link-row (g .r) (g .w) (g .c) (g .rows .now) pos (pre .1 .1) (pre .0 .3) (l .i) (l .start) lt (l .inv .1) goal (l .heads) (l .counts)
+    (l .next) (l .inv .7) heads counts next (called .ensures .0) in (
+      omega arith,
+      omega arith,
+      called .kept .1 .1 .1 .0 ∙ l .inv .2,
+      called .kept .1 .1 .1 .1 .0 ∙ l .inv .3,
+      called .kept .1 .1 .1 .1 .1 .0 ∙ l .inv .4,
+      chain-longer (g .rows .now) (g .r) (g .w) (l .i) (l .start) whole (pre .1 .1) (omega arith) (omega arith) (l .heads) (l .counts) (l .next)
+          heads counts next link (l .i) (l .inv .5),
+      called .ensures .1 .0,
+      root-next (g .r) (g .w) (g .c) (g .rows .now) pos (pre .1 .1) (pre .0 .3) (l .i) (l .start) lt (l .inv .1) goal (l .heads) (l .counts)
+          (l .next) (l .inv .7) heads counts next (called .ensures .0),
+    )
 
 -- src/lib.rt:97:1
 same-length : tie.Need-same-length Inv-loop μ-loop
-same-length c = search needs
+same-length c =
+    c .before .loop .inv .2 ∙ sym (c .before .before .before .before .before .before .pre .1 .0 .0)
 
 -- src/lib.rt:97:1
 same-length-2 : tie.Need-same-length-2 Inv-loop μ-loop
-same-length-2 c = search needs
+same-length-2 c =
+    c .before .loop .inv .3 ∙ sym (c .before .before .before .before .before .before .pre .1 .0 .1)
 
 -- src/lib.rt:97:1
 same-length-3 : tie.Need-same-length-3 Inv-loop μ-loop
-same-length-3 c = search needs
+same-length-3 c =
+    c .before .loop .inv .4
 
 -- src/lib.rt:97:1
 returns : tie.Need-returns Inv-loop μ-loop
-returns c = search needs
+returns c =
+    let l = c .before .loop in
+    let g = c .before .before .before .before .before .before .args in
+    let pre = c .before .before .before .before .before .before .pre in
+    let goal : ℕ → List Tail = λ u. tailsAfter (g .w) u (rowTails 0 (rowsAt (g .r) (g .c) (g .rows .now))) [] in
+    (
+      root-end (g .r) (g .w) (g .c) (g .rows .now) goal (l .heads) (l .counts) (l .next) (l .i) (l .start) (omega arith) (l .inv .7),
+      (l .inv .7 .0, (l .inv .6, λ u. omega (arith, l .inv .5 u))),
+    )
 
 pub link-rows-spec : {M : Type 1} → statement M
 link-rows-spec =
