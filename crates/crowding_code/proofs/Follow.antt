@@ -5,7 +5,7 @@ use mathlib.Core.Bool.{Bool, true, false, cond}
 use mathlib.Core.List.{List, [], _∷_}
 use native.Mathlib.Numerals.{add-one}
 use native.Mathlib.Omega.{arith}
-use lib.ListN.{length, getD, set}
+use lib.ListN.{length, getD, set, replicate}
 use lib.Seq.{getD-set-same, getD-set-other}
 use lib.Dec.{eqb}
 use borrow.Author.Tests.{eqb-true, eqb-false}
@@ -23,6 +23,12 @@ unfolding follow
 chain-empty heads counts next v h =
     let e : getD counts v 0 ≡ 0 = omega arith in
     rw e
+
+-- in a new level every chain is empty
+pub at-most-zero : (n : ℕ) → AtMost 0 (replicate n 0)
+at-most-zero zero v = omega arith
+at-most-zero (suc n) zero = omega arith
+at-most-zero (suc n) (suc v) = at-most-zero n v
 
 -- a chain's first position, and the chain after it
 pub follow-next : (n : ℕ) (next : List ℕ) (p : ℕ) → 0 < n → follow n next p ≡ p ∷ follow (n - 1) next (getD next p 0)

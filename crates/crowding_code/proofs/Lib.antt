@@ -2,3 +2,4 @@ pub mod Follow
 pub mod Rows
 pub mod Walks
 pub mod Roots
+pub mod Visits

@@ -6,7 +6,7 @@ ghost use lib.ListN.{length, getD};
 ghost use Rattle.lists.specs.Lists.{All};
 ghost use Rattle.packing.specs.Rows.{rowsAt};
 ghost use Rattle.crowding.specs.Tails.{tailsAfter, overNodes, lowestCrowded, rowTails};
-ghost use Rattle.crowding_code.specs.Chains.{tailsAt, follow, lowestAt, Chained, Ascends, AtMost, EmptyTo, Fresh, AllChained, Linked, Grown, KeptOutside, KeptTo};
+ghost use Rattle.crowding_code.specs.Chains.{tailsAt, follow, lowestAt, Chained, Ascends, AtMost, EmptyTo, Fresh, AllChained, Linked, Grown, lowestChild, KeptOutside, KeptTo, KeptBelow};
 
 fn lesser(a: usize, b: usize) -> usize
     ensures { λ r. ⌜ r ≡ min a b ⌝ }
@@ -137,6 +137,71 @@ fn lowest(r: usize, head: u16, count: u16, next: &[u16], least: usize) -> usize
         low = lesser(low, p / r);
         p = next[p] as usize;
         n -= 1;
+    }
+    low
+}
+
+// The least of `least` and the numbers of the rows that hold a crowded set whose next w nodes come after the chain's.
+fn visit(
+    rows: &[u8],
+    r: usize,
+    w: usize,
+    bound: usize,
+    head: u16,
+    count: u16,
+    next: &mut [u16],
+    least: usize,
+) -> usize
+    requires room { ⌜ (w < r) × (r ≤ 5) × (length (now rows) ≤ length (now next)) × (length (now rows) ≤ 65535) ⌝ }
+    requires count { ⌜ (bound < count) × (count ≤ 65530) ⌝ }
+    requires order { ⌜ Ascends r (now rows) ⌝ }
+    requires chained { ⌜ Chained r (now rows) (getD (now rows) head 0) (follow count (now next) head) ⌝ }
+    ensures found { λ n.
+        ⌜ n ≡ lowestCrowded w bound (tailsAt r (now (rows .entry)) (follow count (now (next .entry)) head)) least ⌝ }
+    ensures kept { λ n.
+        ⌜ KeptTo (getD (now (rows .entry)) head 0) (now (rows .entry)) (now (next .entry)) (now (next .exit)) ⌝ }
+{
+    if w == 0 {
+        return lowest(r, head, count, next, least);
+    }
+    let mut heads = [0u16; 256];
+    let mut counts = [0u16; 256];
+    let most = link_tails(rows, r, w - 1, head, count, &mut heads, &mut counts, next);
+    if most as usize <= bound {
+        return least;
+    }
+    children(rows, r, w - 1, bound, &heads, &counts, next, least)
+}
+
+// Visits each node of a level whose chain is longer than the bound, the largest first: what is linked then for a node are
+// larger nodes, so the chains still to be visited stay.
+fn children(
+    rows: &[u8],
+    r: usize,
+    w: usize,
+    bound: usize,
+    heads: &[u16],
+    counts: &[u16],
+    next: &mut [u16],
+    least: usize,
+) -> usize
+    requires room { ⌜ (w < r) × (r ≤ 5) × (length (now rows) ≤ length (now next)) × (length (now rows) ≤ 65535) ⌝ }
+    requires level { ⌜ (length (now heads) ≡ 256) × (length (now counts) ≡ 256) × AtMost 65530 (now counts) ⌝ }
+    requires order { ⌜ Ascends r (now rows) ⌝ }
+    requires chained { ⌜ AllChained r (now rows) (now heads) (now counts) (now next) ⌝ }
+    ensures found { λ n.
+        ⌜ n ≡ lowestChild w bound r (now (rows .entry)) (now (heads .entry)) (now (counts .entry)) (now (next .entry)) least ⌝ }
+    ensures kept { λ n. ⌜ KeptBelow (now (rows .entry)) (now (counts .entry)) (now (next .entry)) (now (next .exit)) ⌝ }
+{
+    let mut v: usize = 256;
+    let mut low = least;
+    while v > 0 {
+        v -= 1;
+        let count = counts[v];
+        if count as usize <= bound {
+            continue;
+        }
+        low = visit(rows, r, w, bound, heads[v], count, next, low);
     }
     low
 }

@@ -1,0 +1,131 @@
+-- A level's nodes are visited, the largest first: the chains still to be visited stay, and a chain no longer than the bound
+-- needs no visit. Assumes nothing.
+use Prim.Native.Nat.{ℕ, zero, suc, _+_, _-_, _/_, _≤_, _<_, min}
+use mathlib.Core.Path.{_≡_, refl, sym, ap, subst, _∙_}
+use mathlib.Core.List.{List, [], _∷_}
+use native.Mathlib.Omega.{arith}
+use lib.ListN.{length, getD, length-map}
+use borrow.Author.Tests.{lt-ltb}
+use Rattle.lists.specs.Lists.{All}
+use Rattle.lists.proofs.Alls.{all-imp}
+use Rattle.crowding.specs.Tails.{Tail, tailsAfter, lowestRow, overNodes, lowestCrowded}
+use Rattle.crowding.proofs.TailsFew.{over-nodes-same, lowest-few}
+use Rattle.crowding_code.specs.Chains.{tailAt, tailsAt, follow, chain, lowestAt, lowestChild, Placed, Chained, AtMost, EmptyTo, AllChained, Grown, KeptTo, KeptBelow}
+use Rattle.crowding_code.proofs.Follow.{length-follow, all-follow}
+use Rattle.crowding_code.proofs.Walks.{follow-kept-to, before-end}
+
+over-next : (f : ℕ → ℕ → ℕ) (v least : ℕ) → 0 < v → overNodes f (v - 1) (f (v - 1) least) ≡ overNodes f v least
+unfolding overNodes
+over-next f zero least pos = absurd (omega arith)
+over-next f (suc v) least pos =
+    let e : suc v - 1 ≡ v = omega arith in
+    rw e
+
+over-congr : (f g : ℕ → ℕ → ℕ) → ((v least : ℕ) → f v least ≡ g v least) → (n least : ℕ) → overNodes f n least ≡ overNodes g n least
+unfolding overNodes
+over-congr f g same zero least = refl
+over-congr f g same (suc v) least = over-congr f g same v (f v least) ∙ ap (overNodes g v) (same v least)
+
+length-tails : (r : ℕ) (rows : List ℕ) (n : ℕ) (next : List ℕ) (p : ℕ) → length (tailsAt r rows (follow n next p)) ≡ n
+length-tails r rows n next p = length-map (follow n next p) (tailAt r rows) ∙ length-follow n next p
+
+-- the loop over a level's nodes
+module _ (r w bound : ℕ) (rows heads counts next₀ : List ℕ) (least₀ : ℕ) where
+  abbrev visited : (v least : ℕ) → ℕ
+  visited v least = lowestCrowded w bound (tailsAt r rows (chain heads counts next₀ v)) least
+
+  -- the nodes below v are still to be visited
+  abbrev pub ToVisit : (next : List ℕ) (v least : ℕ) → Type 0
+  ToVisit next v least =
+      ((u : ℕ) → u < v → chain heads counts next u ≡ chain heads counts next₀ u)
+      × (overNodes visited v least ≡ lowestChild w bound r rows heads counts next₀ least₀)
+      × KeptBelow rows counts next₀ next
+
+  pub visit-start : ToVisit next₀ 256 least₀
+  visit-start = (λ u lt. refl, refl, λ v empty p le. refl)
+
+  pub visit-end : (next : List ℕ) (v least : ℕ) → v ≡ 0 → ToVisit next v least → least ≡ lowestChild w bound r rows heads counts next₀ least₀
+  unfolding overNodes
+  visit-end next v least e h = sym (rw e) ∙ h .1
+
+  pub visit-skip : (next : List ℕ) (v least : ℕ) → 0 < v → getD counts (v - 1) 0 ≤ bound → ToVisit next v least → ToVisit next (v - 1) least
+  visit-skip next v least pos few h =
+      (
+        λ u lt. h .0 u (omega arith),
+        ap (overNodes visited (v - 1))
+            (sym (lowest-few w bound (tailsAt r rows (chain heads counts next₀ (v - 1))) least
+            (omega (arith, length-tails r rows (getD counts (v - 1) 0) next₀ (getD heads (v - 1) 0)))))
+            ∙ over-next visited v least pos
+            ∙ h .1,
+        h .2,
+      )
+
+  -- node v-1 is visited
+  module _ (chained : AllChained r rows heads counts next₀) (next : List ℕ) (v least : ℕ) (pos : 0 < v)
+      (some : 0 < getD counts (v - 1) 0) (h : ToVisit next v least) where
+    abbrev head : ℕ
+    head = getD heads (v - 1) 0
+
+    head-node : getD rows head 0 ≡ v - 1
+    head-node = all-follow (Placed r rows (v - 1)) (getD counts (v - 1) 0) next₀ head some (chained (v - 1) .0) .0 .1
+
+    pub visit-chained : Chained r rows (getD rows head 0) (follow (getD counts (v - 1) 0) next head)
+    visit-chained = rw (head-node, h .0 (v - 1) (omega arith)) (chained (v - 1))
+
+    pub visit-next : (last : List ℕ) (low : ℕ)
+        → low ≡ lowestCrowded w bound (tailsAt r rows (follow (getD counts (v - 1) 0) next head)) least
+        → KeptTo (getD rows head 0) rows next last → ToVisit last (v - 1) low
+    visit-next last low found kept =
+        (
+          λ u lt. follow-kept-to rows u (getD rows head 0) (getD counts u 0) next last (getD heads u 0) r (omega (arith, head-node)) kept
+              (rw (h .0 u (omega arith)) (chained u .0))
+              ∙ h .0 u (omega arith),
+          ap (overNodes visited (v - 1))
+              (found ∙ ap (λ (l : List ℕ). lowestCrowded w bound (tailsAt r rows l) least) (h .0 (v - 1) (omega arith)))
+              ∙ over-next visited v least pos
+              ∙ h .1,
+          λ u empty p le.
+              (let not : v - 1 ≤ u → ⊥ = λ low. omega (arith, empty (v - 1) low) in
+              kept p (omega (arith, not, head-node)))
+              ∙ h .2 u empty p le,
+        )
+
+-- a visit to a chain
+module _ (r w bound : ℕ) (rows next : List ℕ) (head count least : ℕ) where
+  abbrev tails : List Tail
+  tails = tailsAt r rows (follow count next head)
+
+  lowest-row-at : (l : List ℕ) (least : ℕ) → lowestAt r least l ≡ lowestRow least (tailsAt r rows l)
+  unfolding lowestAt lowestRow
+  lowest-row-at [] least = refl
+  lowest-row-at (p ∷ l) least = lowest-row-at l (min least (p / r))
+
+  pub visit-last : w ≡ 0 → bound < count → lowestAt r least (follow count next head) ≡ lowestCrowded w bound tails least
+  unfolding lowestCrowded
+  visit-last e many =
+      rw (e, lt-ltb bound (length tails) (omega (arith, length-tails r rows count next head)))
+      (lowest-row-at (follow count next head) least)
+
+  pub within-next : 0 < r → length rows ≤ length next → (v : ℕ) → Chained r rows v (follow count next head)
+      → All (λ p. p < length next) (follow count next head)
+  within-next pos le v h =
+      all-imp (Placed r rows v) (λ p. p < length next) (λ p placed. omega (arith, placed .0, before-end r p pos))
+      (follow count next head) (h .0)
+
+-- the level below: its chains hold the tails
+module _ (n w bound r : ℕ) (rows heads counts next : List ℕ) (tails : List Tail) (least : ℕ) (e : n ≡ suc w)
+    (grown : Grown w tails r rows heads counts next) where
+  pub grown-lowest : lowestChild w bound r rows heads counts next least ≡ lowestCrowded n bound tails least
+  unfolding lowestCrowded
+  grown-lowest =
+      rw e
+      (over-congr (λ v least. lowestCrowded w bound (tailsAt r rows (chain heads counts next v)) least)
+      (λ v least. lowestCrowded w bound (tailsAfter w v tails []) least)
+      (λ v least. ap (λ (ts : List Tail). lowestCrowded w bound ts least) (grown v)) 256 least)
+
+  pub grown-few : (most : ℕ) → AtMost most counts → most ≤ bound → least ≡ lowestCrowded n bound tails least
+  grown-few most few le =
+      sym (over-nodes-same (λ v least. lowestCrowded w bound (tailsAt r rows (chain heads counts next v)) least)
+      (λ v least. lowest-few w bound (tailsAt r rows (chain heads counts next v)) least
+      (omega (arith, few v, length-tails r rows (getD counts v 0) next (getD heads v 0)))) 256 least)
+      ∙ grown-lowest
