@@ -3,3 +3,4 @@ pub mod Rows
 pub mod Walks
 pub mod Roots
 pub mod Visits
+pub mod Order

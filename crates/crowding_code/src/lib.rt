@@ -1,11 +1,14 @@
 // The packing test on rows in bytes, by sets that grow a node at a time.
+use packing::Record;
+use packing::RowFound;
 ghost use mathlib.Core.Path.{_≡_};
-ghost use mathlib.Core.List.{_++_};
-ghost use Prim.Native.Nat.{ℕ, suc, _+_, _*_, _-_, _≤_, _<_, min};
+ghost use Prim.Native.Nat.{suc, _*_, _-_, _≤_, _<_, min};
+ghost use lib.Dec.{T};
 ghost use lib.ListN.{length, getD};
 ghost use Rattle.lists.specs.Lists.{All};
-ghost use Rattle.packing.specs.Rows.{rowsAt};
-ghost use Rattle.crowding.specs.Tails.{tailsAfter, overNodes, lowestCrowded, rowTails};
+ghost use Rattle.packing.specs.Rows.{ascending, rowsAt, firstCrowded};
+ghost use Rattle.packing.specs.Answers.{rowFound};
+ghost use Rattle.crowding.specs.Tails.{lowestCrowded, rowTails};
 ghost use Rattle.crowding_code.specs.Chains.{tailsAt, follow, lowestAt, Chained, Ascends, AtMost, EmptyTo, Fresh, AllChained, Linked, Grown, lowestChild, KeptOutside, KeptTo, KeptBelow};
 
 fn lesser(a: usize, b: usize) -> usize
@@ -204,4 +207,46 @@ fn children(
         low = visit(rows, r, w, bound, heads[v], count, next, low);
     }
     low
+}
+
+// The least number of a row that holds a set of x+1 nodes in more than `bound` of the rows, 65,536 where there is none;
+// with a slice to link the positions in.
+fn least_crowded(
+    rows: &[u8],
+    c: usize,
+    r: usize,
+    x: usize,
+    bound: usize,
+    next: &mut [u16],
+) -> usize
+    requires limits { ⌜ (c ≤ 4096) × (r ≤ 5) × (x < r) × (length (now rows) ≡ c * r) × (20480 ≤ length (now next)) ⌝ }
+    requires order { ⌜ Ascends r (now rows) ⌝ }
+    ensures { λ n. ⌜ n ≡ lowestCrowded (suc x) bound (rowTails 0 (rowsAt r c (now (rows .entry)))) 65536 ⌝ }
+{
+    let mut heads = [0u16; 256];
+    let mut counts = [0u16; 256];
+    let most = link_rows(rows, c, r, x, &mut heads, &mut counts, next);
+    if most as usize <= bound {
+        return 65536;
+    }
+    children(rows, r, x, bound, &heads, &counts, next, 65536)
+}
+
+// Refusal 7 of a layer: the first of c rows of r bytes, all ascending, that holds x+1 nodes which stand together in
+// more than `bound` of the rows.
+pub fn first_crowded(rows: &[u8], c: usize, r: usize, x: usize, bound: usize) -> RowFound
+    requires limits { ⌜ (c ≤ 4096) × (r ≤ 5) × (x < r) × (c * r ≤ length (now rows)) ⌝ }
+    requires order { ⌜ All (λ row. T (ascending 0 row)) (rowsAt r c (now rows)) ⌝ }
+    ensures { λ found. ⌜ found ≡ rowFound (firstCrowded x bound (rowsAt r c (now (rows .entry)))) ⌝ }
+{
+    if c <= bound {
+        return RowFound::Nothing;
+    }
+    let mut next = [0u16; 20480];
+    let end = c * r;
+    let least = least_crowded(&rows[0..end], c, r, x, bound, &mut next);
+    if least < 65536 {
+        return RowFound::At(Record(least));
+    }
+    RowFound::Nothing
 }

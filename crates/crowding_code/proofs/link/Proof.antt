@@ -9,9 +9,6 @@ use native.Mathlib.Omega.{arith}
 use borrow.Author.Needs.{needs}
 use Rattle.crowding_code.proofs.link.Statement.{statement}
 use Rattle.crowding_code.proofs.link.Tie as tie
-use Rattle.crowding_code.proofs.link.Reads as reads
-use Rattle.crowding_code.proofs.link.Lts as lts
-use Rattle.crowding_code.proofs.larger.Reads as larger-reads
 
 abbrev Inv-loop : tie.InvT-loop
 Inv-loop rows from to heads₀ counts₀ next₀ most f₀ longest₀ heads counts next f longest =
@@ -24,91 +21,72 @@ Inv-loop rows from to heads₀ counts₀ next₀ most f₀ longest₀ heads coun
 abbrev μ-loop : tie.MeasureT-loop
 μ-loop rows from to heads₀ counts₀ next₀ most f₀ longest₀ heads counts next f longest = to - f
 
--- src/lib.rt:45:5
 loop-holds : tie.Need-loop-holds Inv-loop μ-loop
 loop-holds c =
     let pre = c .before .before .before .before .pre in
     (omega arith, pre .1 .0 .0, pre .1 .0 .1, refl, λ v. omega (arith, pre .1 .1 .0 .1 v), pre .1 .1 .0 .2, pre .1 .1 .1, λ v. refl, λ p o. refl)
 
--- src/lib.rt:46:17
 shared-slice-read-v : tie.Need-shared-slice-read-v Inv-loop μ-loop
 shared-slice-read-v c = search needs
 
--- src/lib.rt:46:17
 cast-v : tie.Need-cast-v Inv-loop μ-loop
 cast-v c =
     omega (arith, c .shared-slice-known2 .given (c .before .before .loop .f))
 
--- src/lib.rt:47:19
 mul-next : tie.Need-mul-next Inv-loop μ-loop
 mul-next c =
     omega (arith, c .shared-slice-known2 .given (c .before .before .loop .f))
 
--- src/lib.rt:47:19
 slice-read-next : tie.Need-slice-read-next Inv-loop μ-loop
 slice-read-next c =
     omega (arith, c .before .shared-slice-known2 .given (c .before .before .before .loop .f))
 
--- src/lib.rt:47:9
 mul-next-2 : tie.Need-mul-next-2 Inv-loop μ-loop
 mul-next-2 c = search needs
 
--- src/lib.rt:47:9
 slice-write-next : tie.Need-slice-write-next Inv-loop μ-loop
 slice-write-next c = search needs
 
--- src/lib.rt:48:20
 cast-heads : tie.Need-cast-heads Inv-loop μ-loop
 cast-heads c = search needs
 
--- src/lib.rt:48:9
 mul-heads : tie.Need-mul-heads Inv-loop μ-loop
 mul-heads c =
     omega (arith, c .before .shared-slice-known2 .given (c .before .before .before .loop .f))
 
--- src/lib.rt:48:9
 slice-write-heads : tie.Need-slice-write-heads Inv-loop μ-loop
 slice-write-heads c =
     omega (arith, c .before .shared-slice-known2 .given (c .before .before .before .loop .f))
 
--- src/lib.rt:49:17
 mul-n : tie.Need-mul-n Inv-loop μ-loop
 mul-n c =
     omega (arith, c .before .shared-slice-known2 .given (c .before .before .before .loop .f))
 
--- src/lib.rt:49:17
 slice-read-n : tie.Need-slice-read-n Inv-loop μ-loop
 slice-read-n c =
     omega (arith, c .before .before .shared-slice-known2 .given (c .before .before .before .before .loop .f))
 
--- src/lib.rt:49:17
 add-n : tie.Need-add-n Inv-loop μ-loop
 add-n c =
     omega (arith, c .before .before .before .before .loop .inv .4 (getD (c .before .before .before .before .before .before .before .before .before .args .rows .now) (c .before .before .before .before .loop .f) 0), c .before .before .before .before .before .before .before .before .before .pre .1 .1 .0 .0)
 
--- src/lib.rt:50:9
 mul-counts : tie.Need-mul-counts Inv-loop μ-loop
 mul-counts c =
     omega (arith, c .before .before .shared-slice-known2 .given (c .before .before .before .before .loop .f))
 
--- src/lib.rt:50:9
 slice-write-counts : tie.Need-slice-write-counts Inv-loop μ-loop
 slice-write-counts c =
     omega (arith, c .before .before .shared-slice-known2 .given (c .before .before .before .before .loop .f))
 
--- src/lib.rt:51:9
 larger-requires : tie.Need-larger-requires Inv-loop μ-loop
 larger-requires c κs = search needs
 
--- src/lib.rt:52:9
 add-f : tie.Need-add-f Inv-loop μ-loop
 add-f c = search needs
 
--- src/lib.rt:45:5
 loop-less : tie.Need-loop-less Inv-loop μ-loop
 loop-less c = search needs
 
--- src/lib.rt:45:5
 loop-again : tie.Need-loop-again Inv-loop μ-loop
 loop-again c =
     let l = c .before .before .before .before .before .loop in
@@ -133,22 +111,18 @@ loop-again c =
       turn-kept (g .next .now) (l .next) (g .from) (l .f) (g .to) (getD (l .heads) v 0) (i .0) more (i .8),
     )
 
--- src/lib.rt:24:1
 same-length : tie.Need-same-length Inv-loop μ-loop
 same-length c =
     c .before .loop .inv .1 ∙ sym (c .before .before .before .before .before .before .pre .1 .0 .0)
 
--- src/lib.rt:24:1
 same-length-2 : tie.Need-same-length-2 Inv-loop μ-loop
 same-length-2 c =
     c .before .loop .inv .2 ∙ sym (c .before .before .before .before .before .before .pre .1 .0 .1)
 
--- src/lib.rt:24:1
 same-length-3 : tie.Need-same-length-3 Inv-loop μ-loop
 same-length-3 c =
     c .before .loop .inv .3
 
--- src/lib.rt:24:1
 returns : tie.Need-returns Inv-loop μ-loop
 returns c =
     let l = c .before .loop in

@@ -13,9 +13,6 @@ use native.Mathlib.Omega.{arith}
 use borrow.Author.Needs.{needs}
 use Rattle.crowding_code.proofs.link_rows.Statement.{statement}
 use Rattle.crowding_code.proofs.link_rows.Tie as tie
-use Rattle.crowding_code.proofs.link_rows.Reads as reads
-use Rattle.crowding_code.proofs.link_rows.Lts as lts
-use Rattle.crowding_code.proofs.link.Reads as link-reads
 
 abbrev Inv-loop : tie.InvT-loop
 Inv-loop rows c r w heads₀ counts₀ next₀ i₀ start₀ most₀ heads counts next i start most =
@@ -26,7 +23,6 @@ Inv-loop rows c r w heads₀ counts₀ next₀ i₀ start₀ most₀ heads count
 abbrev μ-loop : tie.MeasureT-loop
 μ-loop rows c r w heads₀ counts₀ next₀ i₀ start₀ most₀ heads counts next i start most = c - i
 
--- src/lib.rt:119:5
 loop-holds : tie.Need-loop-holds Inv-loop μ-loop
 loop-holds c =
     let g = c .before .before .before .before .args in
@@ -41,7 +37,6 @@ loop-holds c =
       root-start (g .r) (g .w) (g .c) (g .rows .now) (g .heads .now) (g .counts .now) (g .next .now) (pre .1 .0 .2),
     )
 
--- src/lib.rt:120:19
 add-end : tie.Need-add-end Inv-loop μ-loop
 add-end c =
     let l = c .before .loop in
@@ -53,7 +48,6 @@ add-end c =
     let whole = row-whole (g .r) (g .w) (g .c) (g .rows .now) pos (pre .1 .1) (pre .0 .3) (l .i) (l .start) lt (l .inv .1) goal (l .heads) (l .counts) (l .next) (l .inv .7) in
     omega (arith, whole, mul-le-mul {n₁ = g .c} {m₁ = g .r} {n₂ = 4096} {m₂ = 5} (pre .0 .2) (pre .0 .1))
 
--- src/lib.rt:121:34
 sub-link : tie.Need-sub-link Inv-loop μ-loop
 sub-link c =
     let l = c .before .loop in
@@ -65,7 +59,6 @@ sub-link c =
     let whole = row-whole (g .r) (g .w) (g .c) (g .rows .now) pos (pre .1 .1) (pre .0 .3) (l .i) (l .start) lt (l .inv .1) goal (l .heads) (l .counts) (l .next) (l .inv .7) in
     omega (arith, pre .0)
 
--- src/lib.rt:121:9
 link-requires : tie.Need-link-requires Inv-loop μ-loop
 link-requires c κs =
     let l = c .before .before .before .before .loop in
@@ -87,15 +80,12 @@ link-requires c κs =
       ),
     )
 
--- src/lib.rt:123:9
 add-i : tie.Need-add-i Inv-loop μ-loop
 add-i c = search needs
 
--- src/lib.rt:119:5
 loop-less : tie.Need-loop-less Inv-loop μ-loop
 loop-less c = search needs
 
--- src/lib.rt:119:5
 loop-again : tie.Need-loop-again Inv-loop μ-loop
 loop-again c =
     let l = c .before .before .before .before .before .before .before .before .before .before .before .loop in
@@ -123,22 +113,18 @@ loop-again c =
           (l .next) (l .inv .7) heads counts next (called .ensures .0),
     )
 
--- src/lib.rt:97:1
 same-length : tie.Need-same-length Inv-loop μ-loop
 same-length c =
     c .before .loop .inv .2 ∙ sym (c .before .before .before .before .before .before .pre .1 .0 .0)
 
--- src/lib.rt:97:1
 same-length-2 : tie.Need-same-length-2 Inv-loop μ-loop
 same-length-2 c =
     c .before .loop .inv .3 ∙ sym (c .before .before .before .before .before .before .pre .1 .0 .1)
 
--- src/lib.rt:97:1
 same-length-3 : tie.Need-same-length-3 Inv-loop μ-loop
 same-length-3 c =
     c .before .loop .inv .4
 
--- src/lib.rt:97:1
 returns : tie.Need-returns Inv-loop μ-loop
 returns c =
     let l = c .before .loop in

@@ -11,9 +11,6 @@ use native.Mathlib.Omega.{arith}
 use borrow.Author.Needs.{needs}
 use Rattle.crowding_code.proofs.link_tails.Statement.{statement}
 use Rattle.crowding_code.proofs.link_tails.Tie as tie
-use Rattle.crowding_code.proofs.link_tails.Reads as reads
-use Rattle.crowding_code.proofs.link_tails.Lts as lts
-use Rattle.crowding_code.proofs.link.Reads as link-reads
 
 abbrev Inv-loop : tie.InvT-loop
 Inv-loop rows r w head count heads₀ counts₀ next₀ p₀ n₀ most₀ heads counts next p n most =
@@ -25,7 +22,6 @@ Inv-loop rows r w head count heads₀ counts₀ next₀ p₀ n₀ most₀ heads 
 abbrev μ-loop : tie.MeasureT-loop
 μ-loop rows r w head count heads₀ counts₀ next₀ p₀ n₀ most₀ heads counts next p n most = n
 
--- src/lib.rt:86:5
 loop-holds : tie.Need-loop-holds Inv-loop μ-loop
 loop-holds c =
     let g = c .before .before .before .before .args in
@@ -41,7 +37,6 @@ loop-holds c =
           (follow (g .count) (g .next .now) (g .head)) (pre .1 .0 .2) (pre .1 .1 .1 .0) (pre .1 .1 .1 .1),
     )
 
--- src/lib.rt:87:21
 mul-after : tie.Need-mul-after Inv-loop μ-loop
 mul-after c =
     let l = c .before .loop in
@@ -54,7 +49,6 @@ mul-after c =
     let pos : 0 < g .r = omega (arith, pre .0) in
     omega (arith, here .0, before-end (g .r) (l .p) pos)
 
--- src/lib.rt:87:21
 slice-read-after : tie.Need-slice-read-after Inv-loop μ-loop
 slice-read-after c =
     let l = c .before .before .loop in
@@ -67,12 +61,10 @@ slice-read-after c =
     let pos : 0 < g .r = omega (arith, pre .0) in
     omega (arith, here .0, before-end (g .r) (l .p) pos)
 
--- src/lib.rt:88:20
 div-end : tie.Need-div-end Inv-loop μ-loop
 div-end c =
     search needs
 
--- src/lib.rt:88:20
 add-end : tie.Need-add-end Inv-loop μ-loop
 add-end c =
     let l = c .before .before .loop in
@@ -85,7 +77,6 @@ add-end c =
     let pos : 0 < g .r = omega (arith, pre .0) in
     omega (arith, div-le-self (l .p) (g .r), here .0, before-end (g .r) (l .p) pos)
 
--- src/lib.rt:88:19
 mul-end : tie.Need-mul-end Inv-loop μ-loop
 mul-end c =
     let l = c .before .before .loop in
@@ -98,7 +89,6 @@ mul-end c =
     let pos : 0 < g .r = omega (arith, pre .0) in
     omega (arith, here .0)
 
--- src/lib.rt:89:27
 add-link : tie.Need-add-link Inv-loop μ-loop
 add-link c =
     let l = c .before .before .loop in
@@ -111,7 +101,6 @@ add-link c =
     let pos : 0 < g .r = omega (arith, pre .0) in
     omega (arith, here .0, before-end (g .r) (l .p) pos)
 
--- src/lib.rt:89:34
 sub-link : tie.Need-sub-link Inv-loop μ-loop
 sub-link c =
     let l = c .before .before .loop in
@@ -124,7 +113,6 @@ sub-link c =
     let pos : 0 < g .r = omega (arith, pre .0) in
     omega (arith, pre .0, before-end (g .r) (l .p) pos)
 
--- src/lib.rt:89:9
 link-requires : tie.Need-link-requires Inv-loop μ-loop
 link-requires c κs =
     let l = c .before .before .before .before .before .loop in
@@ -146,20 +134,16 @@ link-requires c κs =
       ),
     )
 
--- src/lib.rt:90:13
 cast-p : tie.Need-cast-p Inv-loop μ-loop
 cast-p c =
     omega (arith, c .before .before .before .before .before .before .before .before .before .before .slice-known4 .given (c .before .before .before .before .before .before .before .before .before .before .before .before .loop .p))
 
--- src/lib.rt:91:9
 sub-n : tie.Need-sub-n Inv-loop μ-loop
 sub-n c = search needs
 
--- src/lib.rt:86:5
 loop-less : tie.Need-loop-less Inv-loop μ-loop
 loop-less c = search needs
 
--- src/lib.rt:86:5
 loop-again : tie.Need-loop-again Inv-loop μ-loop
 loop-again c =
     let l = c .before .before .before .before .before .before .before .before .before .before .before .before .loop in
@@ -190,22 +174,18 @@ loop-again c =
           (called .ensures .0) (l .n - 1) refl (called .ensures .1 .1),
     )
 
--- src/lib.rt:58:1
 same-length : tie.Need-same-length Inv-loop μ-loop
 same-length c =
     c .before .loop .inv .1 ∙ sym (c .before .before .before .before .before .before .pre .1 .0 .0)
 
--- src/lib.rt:58:1
 same-length-2 : tie.Need-same-length-2 Inv-loop μ-loop
 same-length-2 c =
     c .before .loop .inv .2 ∙ sym (c .before .before .before .before .before .before .pre .1 .0 .1)
 
--- src/lib.rt:58:1
 same-length-3 : tie.Need-same-length-3 Inv-loop μ-loop
 same-length-3 c =
     c .before .loop .inv .3
 
--- src/lib.rt:58:1
 returns : tie.Need-returns Inv-loop μ-loop
 returns c =
     let l = c .before .loop in

@@ -10,9 +10,6 @@ use native.Mathlib.Omega.{arith}
 use borrow.Author.Needs.{needs}
 use Rattle.crowding_code.proofs.lowest.Statement.{statement}
 use Rattle.crowding_code.proofs.lowest.Tie as tie
-use Rattle.crowding_code.proofs.lowest.Reads as reads
-use Rattle.crowding_code.proofs.lowest.Lts as lts
-use Rattle.crowding_code.proofs.lesser.Reads as lesser-reads
 
 abbrev Inv-loop : tie.InvT-loop
 Inv-loop r head count next least p₀ n₀ low₀ p n low =
@@ -21,42 +18,33 @@ Inv-loop r head count next least p₀ n₀ low₀ p n low =
 abbrev μ-loop : tie.MeasureT-loop
 μ-loop r head count next least p₀ n₀ low₀ p n low = n
 
--- src/lib.rt:65:5
 loop-holds : tie.Need-loop-holds Inv-loop μ-loop
 loop-holds c = search needs
 
--- src/lib.rt:66:27
 div-lesser : tie.Need-div-lesser Inv-loop μ-loop
 div-lesser c = search needs
 
--- src/lib.rt:66:9
 lesser-requires : tie.Need-lesser-requires Inv-loop μ-loop
 lesser-requires c κs = search needs
 
--- src/lib.rt:67:13
 mul-p : tie.Need-mul-p Inv-loop μ-loop
 mul-p c =
     omega (arith, all-follow (λ q. q < length (c .before .before .before .before .args .next .now)) (c .before .before .loop .n) (c .before .before .before .before .args .next .now) (c .before .before .loop .p) (c .before .loop-test .taken) (c .before .before .loop .inv .0) .0)
 
--- src/lib.rt:67:13
 shared-slice-read-p : tie.Need-shared-slice-read-p Inv-loop μ-loop
 shared-slice-read-p c =
     all-follow (λ q. q < length (c .before .before .before .before .before .args .next .now)) (c .before .before .before .loop .n) (c .before .before .before .before .before .args .next .now) (c .before .before .before .loop .p) (c .before .before .loop-test .taken) (c .before .before .before .loop .inv .0) .0
 
--- src/lib.rt:67:13
 cast-p : tie.Need-cast-p Inv-loop μ-loop
 cast-p c =
     omega (arith, c .shared-slice-known2 .given (c .before .before .before .loop .p))
 
--- src/lib.rt:68:9
 sub-n : tie.Need-sub-n Inv-loop μ-loop
 sub-n c = search needs
 
--- src/lib.rt:65:5
 loop-less : tie.Need-loop-less Inv-loop μ-loop
 loop-less c = search needs
 
--- src/lib.rt:65:5
 loop-again : tie.Need-loop-again Inv-loop μ-loop
 loop-again c =
     let l = c .before .before .before .loop in
@@ -67,7 +55,6 @@ loop-again c =
           ∙ l .inv .1,
     )
 
--- src/lib.rt:58:1
 returns : tie.Need-returns Inv-loop μ-loop
 returns c =
     let l = c .before .loop in

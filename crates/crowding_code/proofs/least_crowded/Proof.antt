@@ -1,0 +1,94 @@
+-- `crowding_code::least_crowded` meets its contract: the rows' nodes are the first level. Assumes nothing.
+use Prim.Native.Nat.{suc, _*_, _≤_, _<_}
+use mathlib.Core.Path.{refl, _∙_}
+use native.Mathlib.Nat.{mul-le-mul}
+use lib.ListN.{length}
+use Rattle.packing.specs.Rows.{rowsAt}
+use Rattle.crowding.specs.Tails.{rowTails}
+use Rattle.crowding_code.proofs.Follow.{at-most-zero}
+use Rattle.crowding_code.proofs.Visits.{grown-lowest, grown-few}
+use native.Mathlib.Omega.{arith}
+use borrow.Author.Needs.{needs}
+use Rattle.crowding_code.proofs.least_crowded.Statement.{statement}
+use Rattle.crowding_code.proofs.least_crowded.Tie as tie
+
+slice-aggregate-link-rows : tie.Need-slice-aggregate-link-rows
+slice-aggregate-link-rows c = search needs
+
+slice-aggregate-link-rows-2 : tie.Need-slice-aggregate-link-rows-2
+slice-aggregate-link-rows-2 c = search needs
+
+link-rows-requires : tie.Need-link-rows-requires
+link-rows-requires c κs =
+    let g = c .before .before .before .before .before .args in
+    let pre = c .before .before .before .before .before .pre in
+    let five = mul-le-mul {n₁ = g .c} {m₁ = g .r} {n₂ = 4096} {m₂ = 5} (pre .0 .0) (pre .0 .1) in
+    ((pre .0 .2, pre .0 .1, pre .0 .0, pre .0 .3, omega (arith, five, pre .0)), ((refl, refl, at-most-zero 256), pre .1))
+
+cast-if1 : tie.Need-cast-if1
+cast-if1 c = search needs
+
+same-length : tie.Need-same-length
+same-length c = search needs
+
+returns : tie.Need-returns
+returns c =
+    let g = c .before .before .before .before .before .before .before .before .before .before .before .args in
+    let pre = c .before .before .before .before .before .before .before .before .before .before .before .pre in
+    let linked = c .before .before .before .before .before .link-rows in
+    let heads = linked .last .1 .1 .1 .1 .0 in
+    let counts = linked .last .1 .1 .1 .1 .1 .0 in
+    let next = linked .last .1 .1 .1 .1 .1 .1 .0 in
+    grown-few (suc (g .x)) (g .x) (g .bound) (g .r) (g .rows .now) heads counts next (rowTails 0 (rowsAt (g .r) (g .c) (g .rows .now))) 65536 refl (linked .ensures .0) (linked .result) (linked .ensures .1 .1 .0) (c .if1 .taken)
+
+slice-aggregate-children : tie.Need-slice-aggregate-children
+slice-aggregate-children c = search needs
+
+slice-aggregate-children-2 : tie.Need-slice-aggregate-children-2
+slice-aggregate-children-2 c = search needs
+
+children-requires : tie.Need-children-requires
+children-requires c κs =
+    let g = c .before .before .before .before .before .before .before .before .before .before .before .before .before .before .args in
+    let pre = c .before .before .before .before .before .before .before .before .before .before .before .before .before .before .pre in
+    let five = mul-le-mul {n₁ = g .c} {m₁ = g .r} {n₂ = 4096} {m₂ = 5} (pre .0 .0) (pre .0 .1) in
+    let linked = c .before .before .before .before .before .before .before .before .link-rows in
+    let heads = linked .last .1 .1 .1 .1 .0 in
+    let counts = linked .last .1 .1 .1 .1 .1 .0 in
+    let next = linked .last .1 .1 .1 .1 .1 .1 .0 in
+    (
+      (pre .0 .2, pre .0 .1, omega (arith, five, pre .0, linked .kept .1 .1 .1 .1 .1 .1 .0), omega (arith, five, pre .0)),
+      (
+        (linked .kept .1 .1 .1 .1 .0, linked .kept .1 .1 .1 .1 .1 .0, λ v. omega (arith, linked .ensures .1 .1 .1 v, pre .0)),
+        (pre .1, linked .ensures .1 .0),
+      ),
+    )
+
+same-length-2 : tie.Need-same-length-2
+same-length-2 c = search needs
+
+returns-2 : tie.Need-returns-2
+returns-2 c =
+    let g = c .before .before .before .before .before .before .before .before .before .before .before .before .before .before .before .before .before .args in
+    let pre = c .before .before .before .before .before .before .before .before .before .before .before .before .before .before .before .before .before .pre in
+    let linked = c .before .before .before .before .before .before .before .before .before .before .before .link-rows in
+    let heads = linked .last .1 .1 .1 .1 .0 in
+    let counts = linked .last .1 .1 .1 .1 .1 .0 in
+    let next = linked .last .1 .1 .1 .1 .1 .1 .0 in
+    c .before .before .children .ensures .0 ∙ grown-lowest (suc (g .x)) (g .x) (g .bound) (g .r) (g .rows .now) heads counts next (rowTails 0 (rowsAt (g .r) (g .c) (g .rows .now))) 65536 refl (linked .ensures .0)
+
+pub least-crowded-spec : {M : Type 1} → statement M
+least-crowded-spec =
+    tie.close
+    (tie.spec
+    slice-aggregate-link-rows
+    slice-aggregate-link-rows-2
+    link-rows-requires
+    cast-if1
+    same-length
+    returns
+    slice-aggregate-children
+    slice-aggregate-children-2
+    children-requires
+    same-length-2
+    returns-2)
