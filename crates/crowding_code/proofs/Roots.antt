@@ -36,12 +36,11 @@ tails-from-next rows r c i start lt =
 module _ (r w c : ℕ) (rows : List ℕ) where
   pub root-start : (heads counts next : List ℕ) → AtMost 0 counts
       → Root r w c rows (λ u. tailsAfter w u (rowTails 0 (rowsAt r c rows)) []) heads counts next 0 0
-  root-start heads counts next none =
-      (
-        λ u. rw (chain-empty heads counts next u (none u)) (tt, tt),
-        λ u. rw (chain-empty heads counts next u (none u)) tt,
-        λ u. rw (chain-empty heads counts next u (none u), sub-zero c),
-      )
+  root-start heads counts next none = (
+    λ u. rw (chain-empty heads counts next u (none u)) (tt, tt),
+    λ u. rw (chain-empty heads counts next u (none u)) tt,
+    λ u. rw (chain-empty heads counts next u (none u), sub-zero c),
+  )
 
   pub root-end : (goal : ℕ → List Tail) (heads counts next : List ℕ) (i start : ℕ) → c ≤ i
       → Root r w c rows goal heads counts next i start → (u : ℕ) → tailsAt r rows (chain heads counts next u) ≡ goal u

@@ -49,16 +49,15 @@ module _ (r w bound : ℕ) (rows heads counts next₀ : List ℕ) (least₀ : �
   visit-end next v least e h = sym (rw e) ∙ h .1
 
   pub visit-skip : (next : List ℕ) (v least : ℕ) → 0 < v → getD counts (v - 1) 0 ≤ bound → ToVisit next v least → ToVisit next (v - 1) least
-  visit-skip next v least pos few h =
-      (
-        λ u lt. h .0 u (omega arith),
-        ap (overNodes visited (v - 1))
-            (sym (lowest-few w bound (tailsAt r rows (chain heads counts next₀ (v - 1))) least
-            (omega (arith, length-tails r rows (getD counts (v - 1) 0) next₀ (getD heads (v - 1) 0)))))
-            ∙ over-next visited v least pos
-            ∙ h .1,
-        h .2,
-      )
+  visit-skip next v least pos few h = (
+    λ u lt. h .0 u (omega arith),
+    ap (overNodes visited (v - 1))
+        (sym (lowest-few w bound (tailsAt r rows (chain heads counts next₀ (v - 1))) least
+        (omega (arith, length-tails r rows (getD counts (v - 1) 0) next₀ (getD heads (v - 1) 0)))))
+        ∙ over-next visited v least pos
+        ∙ h .1,
+    h .2,
+  )
 
   -- node v-1 is visited
   module _ (chained : AllChained r rows heads counts next₀) (next : List ℕ) (v least : ℕ) (pos : 0 < v)
@@ -75,20 +74,19 @@ module _ (r w bound : ℕ) (rows heads counts next₀ : List ℕ) (least₀ : �
     pub visit-next : (last : List ℕ) (low : ℕ)
         → low ≡ lowestCrowded w bound (tailsAt r rows (follow (getD counts (v - 1) 0) next head)) least
         → KeptTo (getD rows head 0) rows next last → ToVisit last (v - 1) low
-    visit-next last low found kept =
-        (
-          λ u lt. follow-kept-to rows u (getD rows head 0) (getD counts u 0) next last (getD heads u 0) r (omega (arith, head-node)) kept
-              (rw (h .0 u (omega arith)) (chained u .0))
-              ∙ h .0 u (omega arith),
-          ap (overNodes visited (v - 1))
-              (found ∙ ap (λ (l : List ℕ). lowestCrowded w bound (tailsAt r rows l) least) (h .0 (v - 1) (omega arith)))
-              ∙ over-next visited v least pos
-              ∙ h .1,
-          λ u empty p le.
-              (let not : v - 1 ≤ u → ⊥ = λ low. omega (arith, empty (v - 1) low) in
-              kept p (omega (arith, not, head-node)))
-              ∙ h .2 u empty p le,
-        )
+    visit-next last low found kept = (
+      λ u lt. follow-kept-to rows u (getD rows head 0) (getD counts u 0) next last (getD heads u 0) r (omega (arith, head-node)) kept
+          (rw (h .0 u (omega arith)) (chained u .0))
+          ∙ h .0 u (omega arith),
+      ap (overNodes visited (v - 1))
+          (found ∙ ap (λ (l : List ℕ). lowestCrowded w bound (tailsAt r rows l) least) (h .0 (v - 1) (omega arith)))
+          ∙ over-next visited v least pos
+          ∙ h .1,
+      λ u empty p le.
+          (let not : v - 1 ≤ u → ⊥ = λ low. omega (arith, empty (v - 1) low) in
+          kept p (omega (arith, not, head-node)))
+          ∙ h .2 u empty p le,
+    )
 
 -- a visit to a chain
 module _ (r w bound : ℕ) (rows next : List ℕ) (head count least : ℕ) where

@@ -17,12 +17,11 @@ use Rattle.crowding_code.proofs.Rows.{in-row, row-end, rising, linked-n
 module _ (r : ℕ) where
   pub apart-without : (l m : List ℕ) (p : ℕ) → Apart r (l ++ p ∷ m) → Apart r (l ++ m)
   apart-without [] m p h = h .1
-  apart-without (a ∷ l) m p h =
-      (
-        all-append (λ q. q / r ≡ a / r → ⊥) l m (all-append-left (λ q. q / r ≡ a / r → ⊥) l (p ∷ m) (h .0))
-            (all-append-right (λ q. q / r ≡ a / r → ⊥) l (p ∷ m) (h .0) .1),
-        apart-without l m p (h .1),
-      )
+  apart-without (a ∷ l) m p h = (
+    all-append (λ q. q / r ≡ a / r → ⊥) l m (all-append-left (λ q. q / r ≡ a / r → ⊥) l (p ∷ m) (h .0))
+        (all-append-right (λ q. q / r ≡ a / r → ⊥) l (p ∷ m) (h .0) .1),
+    apart-without l m p (h .1),
+  )
 
   pub apart-from : (l m : List ℕ) (p : ℕ) → Apart r (l ++ p ∷ m) → All (λ q. q / r ≡ p / r → ⊥) (l ++ m)
   apart-from [] m p h = h .0
@@ -60,14 +59,13 @@ module _ (r w : ℕ) (rows : List ℕ) (v : ℕ) where
   -- an empty level
   pub walk-start : (heads counts next rest : List ℕ) → AtMost 0 counts → All (Placed r rows v) rest → Apart r rest
       → Walk r w rows v (λ u. tailsAfter w u (tailsAt r rows rest) []) heads counts next rest
-  walk-start heads counts next rest none placed apart =
-      (
-        λ u le. omega (arith, none u),
-        placed,
-        λ u. rw (chain-empty heads counts next u (none u)) tt,
-        λ u. rw (chain-empty heads counts next u (none u)) apart,
-        λ u. rw (chain-empty heads counts next u (none u)),
-      )
+  walk-start heads counts next rest none placed apart = (
+    λ u le. omega (arith, none u),
+    placed,
+    λ u. rw (chain-empty heads counts next u (none u)) tt,
+    λ u. rw (chain-empty heads counts next u (none u)) apart,
+    λ u. rw (chain-empty heads counts next u (none u)),
+  )
 
   -- a position is next
   pub walk-first : (goal : ℕ → List Tail) (heads counts next last : List ℕ) (n p : ℕ) → 0 < n
@@ -170,9 +168,10 @@ module _ (rows : List ℕ) (r w p v : ℕ) (pos : 0 < r) (order : Ascends r rows
         λ u. chain-placed rows r w (p / r) (p + 1) (here .0) order past-start to-end heads counts next heads′ counts′ next′ link u (walk .2 u),
         λ u. chain-elim rows r w (p / r) (p + 1) (here .0) order past-start to-end heads counts next heads′ counts′ next′ link
             (λ l. Apart r (l ++ rest)) u (apart-without r (chain heads counts next u) rest p (walk .3 u))
-            (λ q le lt e.
-            (rw (in-row rows r (p / r) (here .0) order q (omega (arith, past-start)) lt) (apart-from r (chain heads counts next u) rest p (walk .3 u)),
-            apart-without r (chain heads counts next u) rest p (walk .3 u))),
+            (λ q le lt e. (
+              rw (in-row rows r (p / r) (here .0) order q (omega (arith, past-start)) lt) (apart-from r (chain heads counts next u) rest p (walk .3 u)),
+              apart-without r (chain heads counts next u) rest p (walk .3 u),
+            )),
         λ u. ap (tailsAfter w u (tailsAt r rows rest)) (chain-tails rows r w (p / r) (p + 1) (here .0) order past-start to-end heads counts next heads′ counts′ next′ link u) ∙ walk .4 u,
       )
 

@@ -39,7 +39,7 @@ fn link(
     requires fresh { ⌜ Fresh from to (now heads) (now counts) (now next) ⌝ }
     ensures chains { λ m.
         ⌜ Linked (now (rows .entry)) from (to - from) (now (heads .entry)) (now (counts .entry)) (now (next .entry))
-            (now (heads .exit)) (now (counts .exit)) (now (next .exit)) ⌝ }
+        (now (heads .exit)) (now (counts .exit)) (now (next .exit)) ⌝ }
     ensures most { λ m. ⌜ AtMost m (now (counts .exit)) ⌝ }
     ensures kept { λ m. ⌜ KeptOutside from to (now (next .entry)) (now (next .exit)) ⌝ }
 {
@@ -74,12 +74,12 @@ fn link_tails(
     requires chained { ⌜ Chained r (now rows) (getD (now rows) head 0) (follow count (now next) head) ⌝ }
     ensures grown { λ m.
         ⌜ Grown w (tailsAt r (now (rows .entry)) (follow count (now (next .entry)) head)) r (now (rows .entry)) (now (heads .exit))
-            (now (counts .exit)) (now (next .exit)) ⌝ }
+        (now (counts .exit)) (now (next .exit)) ⌝ }
     ensures chained { λ m.
         ⌜ AllChained r (now (rows .entry)) (now (heads .exit)) (now (counts .exit)) (now (next .exit)) ⌝ }
     ensures few { λ m.
         ⌜ AtMost m (now (counts .exit)) × AtMost count (now (counts .exit))
-            × EmptyTo (getD (now (rows .entry)) head 0) (now (counts .exit)) ⌝ }
+        × EmptyTo (getD (now (rows .entry)) head 0) (now (counts .exit)) ⌝ }
     ensures kept { λ m.
         ⌜ KeptTo (getD (now (rows .entry)) head 0) (now (rows .entry)) (now (next .entry)) (now (next .exit)) ⌝ }
 {
@@ -111,7 +111,7 @@ fn link_rows(
     requires order { ⌜ Ascends r (now rows) ⌝ }
     ensures grown { λ m.
         ⌜ Grown w (rowTails 0 (rowsAt r c (now (rows .entry)))) r (now (rows .entry)) (now (heads .exit)) (now (counts .exit))
-            (now (next .exit)) ⌝ }
+        (now (next .exit)) ⌝ }
     ensures chained { λ m.
         ⌜ AllChained r (now (rows .entry)) (now (heads .exit)) (now (counts .exit)) (now (next .exit)) ⌝ }
     ensures few { λ m. ⌜ AtMost m (now (counts .exit)) × AtMost c (now (counts .exit)) ⌝ }
@@ -211,14 +211,7 @@ fn children(
 
 // The least number of a row that holds a set of x+1 nodes in more than `bound` of the rows, 65,536 where there is none;
 // with a slice to link the positions in.
-fn least_crowded(
-    rows: &[u8],
-    c: usize,
-    r: usize,
-    x: usize,
-    bound: usize,
-    next: &mut [u16],
-) -> usize
+fn least_crowded(rows: &[u8], c: usize, r: usize, x: usize, bound: usize, next: &mut [u16]) -> usize
     requires limits { ⌜ (c ≤ 4096) × (r ≤ 5) × (x < r) × (length (now rows) ≡ c * r) × (20480 ≤ length (now next)) ⌝ }
     requires order { ⌜ Ascends r (now rows) ⌝ }
     ensures { λ n. ⌜ n ≡ lowestCrowded (suc x) bound (rowTails 0 (rowsAt r c (now (rows .entry)))) 65536 ⌝ }

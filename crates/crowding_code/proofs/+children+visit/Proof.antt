@@ -91,8 +91,7 @@ children-visit-requires t c κs =
     let l = c .before .before .before .before .before .loop in
     let g = c .before .before .before .before .before .before .before .before .before .before .args in
     let pre = c .before .before .before .before .before .before .before .before .before .before .pre .1 in
-    let some : 0 < getD (g .counts .now) (l .v - 1) 0 = omega (arith, c .before .before .if1 .left) in
-    (
+    let some : 0 < getD (g .counts .now) (l .v - 1) 0 = omega (arith, c .before .before .if1 .left) in (
       omega (arith, c .before .before .before .before .before .before .before .before .before .before .pre .0),
       (
         (pre .0 .0, pre .0 .1, omega (arith, pre .0), pre .0 .3),
@@ -162,8 +161,7 @@ visit-slice-aggregate-link-tails-2 t c = search needs
 visit-link-tails-requires : (t : ℕ) → visit-lts.Need-link-tails-requires (callees t) (visit-at t) visit.Post
 visit-link-tails-requires t c κs =
     let g = c .before .before .before .before .before .before .args in
-    let pre = c .before .before .before .before .before .before .pre .1 in
-    (
+    let pre = c .before .before .before .before .before .before .pre .1 in (
       (omega (arith, pre .0), pre .0 .1, pre .0 .2, pre .0 .3, pre .1 .0 .1),
       ((refl, refl, at-most-zero 256), (pre .1 .1 .0, pre .1 .1 .1)),
     )
@@ -181,8 +179,7 @@ visit-returns-2 t c =
     let linked = c .before .before .before .before .before .link-tails in
     let heads = linked .last .1 .1 .1 .1 .1 .0 in
     let counts = linked .last .1 .1 .1 .1 .1 .1 .0 in
-    let next = linked .last .1 .1 .1 .1 .1 .1 .1 .0 in
-    (
+    let next = linked .last .1 .1 .1 .1 .1 .1 .1 .0 in (
       grown-few (g .w) (g .w - 1) (g .bound) (g .r) (g .rows .now) heads counts next (tailsAt (g .r) (g .rows .now) (follow (g .count) (g .next .now) (g .head))) (g .least) (omega (arith, c .before .before .before .before .before .before .before .before .before .if1 .left)) (linked .ensures .0) (linked .result)
           (linked .ensures .1 .1 .0 .0) (c .if2 .taken),
       linked .ensures .1 .1 .1,
@@ -204,8 +201,7 @@ visit-children-requires t c κs =
     let linked = c .before .before .before .before .before .before .before .before .link-tails in
     let heads = linked .last .1 .1 .1 .1 .1 .0 in
     let counts = linked .last .1 .1 .1 .1 .1 .1 .0 in
-    let next = linked .last .1 .1 .1 .1 .1 .1 .1 .0 in
-    (
+    let next = linked .last .1 .1 .1 .1 .1 .1 .1 .0 in (
       omega (arith, c .before .before .before .before .before .before .before .before .before .before .before .before .before .before .before .pre .0, c .before .before .before .before .before .before .before .before .before .before .before .before .if1 .left),
       (
         (omega (arith, pre .0), pre .0 .1, omega (arith, pre .0, linked .kept .1 .1 .1 .1 .1 .1 .1 .0), pre .0 .3),

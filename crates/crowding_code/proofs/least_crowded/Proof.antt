@@ -55,8 +55,7 @@ children-requires c κs =
     let linked = c .before .before .before .before .before .before .before .before .link-rows in
     let heads = linked .last .1 .1 .1 .1 .0 in
     let counts = linked .last .1 .1 .1 .1 .1 .0 in
-    let next = linked .last .1 .1 .1 .1 .1 .1 .0 in
-    (
+    let next = linked .last .1 .1 .1 .1 .1 .1 .0 in (
       (pre .0 .2, pre .0 .1, omega (arith, five, pre .0, linked .kept .1 .1 .1 .1 .1 .1 .0), omega (arith, five, pre .0)),
       (
         (linked .kept .1 .1 .1 .1 .0, linked .kept .1 .1 .1 .1 .1 .0, λ v. omega (arith, linked .ensures .1 .1 .1 v, pre .0)),

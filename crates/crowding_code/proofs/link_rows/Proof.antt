@@ -67,8 +67,7 @@ link-requires c κs =
     let goal : ℕ → List Tail = λ u. tailsAfter (g .w) u (rowTails 0 (rowsAt (g .r) (g .c) (g .rows .now))) [] in
     let lt = c .before .before .before .loop-test .taken in
     let pos : 0 < g .r = omega (arith, pre .0) in
-    let whole = row-whole (g .r) (g .w) (g .c) (g .rows .now) pos (pre .1 .1) (pre .0 .3) (l .i) (l .start) lt (l .inv .1) goal (l .heads) (l .counts) (l .next) (l .inv .7) in
-    (
+    let whole = row-whole (g .r) (g .w) (g .c) (g .rows .now) pos (pre .1 .1) (pre .0 .3) (l .i) (l .start) lt (l .inv .1) goal (l .heads) (l .counts) (l .next) (l .inv .7) in (
       (omega (arith, whole), omega (arith, pre .0), omega (arith, mul-le-mul {n₁ = g .c} {m₁ = g .r} {n₂ = 4096} {m₂ = 5} (pre .0 .2) (pre .0 .1), pre .0)),
       (
         (l .inv .2, l .inv .3),
@@ -130,8 +129,7 @@ returns c =
     let l = c .before .loop in
     let g = c .before .before .before .before .before .before .args in
     let pre = c .before .before .before .before .before .before .pre in
-    let goal : ℕ → List Tail = λ u. tailsAfter (g .w) u (rowTails 0 (rowsAt (g .r) (g .c) (g .rows .now))) [] in
-    (
+    let goal : ℕ → List Tail = λ u. tailsAfter (g .w) u (rowTails 0 (rowsAt (g .r) (g .c) (g .rows .now))) [] in (
       root-end (g .r) (g .w) (g .c) (g .rows .now) goal (l .heads) (l .counts) (l .next) (l .i) (l .start) (omega arith) (l .inv .7),
       (l .inv .7 .0, (l .inv .6, λ u. omega (arith, l .inv .5 u))),
     )

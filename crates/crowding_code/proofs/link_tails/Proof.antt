@@ -122,8 +122,7 @@ link-requires c κs =
     let goal : ℕ → List Tail = λ u. tailsAfter (g .w) u (tailsAt (g .r) (g .rows .now) (follow (g .count) (g .next .now) (g .head))) [] in
     let walk = walk-first (g .r) (g .w) (g .rows .now) v goal (l .heads) (l .counts) (l .next) (l .next) (l .n) (l .p) (c .before .before .before .before .loop-test .taken) (l .inv .7) in
     let here = walk .1 .0 in
-    let pos : 0 < g .r = omega (arith, pre .0) in
-    (
+    let pos : 0 < g .r = omega (arith, pre .0) in (
       (omega (arith, here .0), omega (arith, pre .0), omega (arith, pre .0)),
       (
         (l .inv .1, l .inv .2),
