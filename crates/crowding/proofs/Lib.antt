@@ -1,13 +1,7 @@
 pub mod Sets
-pub mod Codes
-pub mod Keys
 pub mod First
-pub mod Runs
-pub mod Crowded
-pub mod Extended
-pub mod Filled
-pub mod Order
 pub mod TailSets
 pub mod Lowest
 pub mod TailsFirst
 pub mod TailsFew
+pub mod Crowded

@@ -17,7 +17,7 @@ use Rattle.lists.proofs.Listed.{all-mem, any-mem, count-mem, passing-any, passi
 use Rattle.packing.specs.Rows.{ascending, together, holds, subsets, crowded, firstCrowded}
 use Rattle.packing.proofs.Members.{ascending-distinct}
 use Rattle.packing.proofs.Sets.{SetIn, subsets-in, listed-set, together-same}
-use Rattle.crowding.specs.Shared.{rowNumber}
+use Rattle.crowding.specs.Tails.{rowNumber}
 use Rattle.crowding.specs.Tails.{Tail, lowestCrowded, rowTails}
 use Rattle.crowding.proofs.Sets.{subsets-ascending}
 use Rattle.crowding.proofs.First.{Below, first-below}

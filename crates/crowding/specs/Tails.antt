@@ -1,9 +1,9 @@
 -- The packing test by tails: sets of nodes are grown one node at a time, least node first, and what is left of the rows
--- that hold the nodes chosen so far are the tails. A set grows on only while it stands in more rows than the bound.
--- Assumes nothing.
+-- that hold the nodes chosen so far are the tails. Assumes nothing.
 use Prim.Native.Nat.{ℕ, zero, suc, min}
 use mathlib.Core.Bool.{Bool, cond, _&&_}
 use mathlib.Core.List.{List, [], _∷_}
+use mathlib.Core.Option.{Option, none, some}
 use lib.ListN.{length}
 use lib.Dec.{leb, ltb, eqb}
 use Rattle.packing.specs.Rows.{member}
@@ -49,3 +49,8 @@ lowestCrowded (suc w) bound tails least =
 unfoldable pub rowTails : (i : ℕ) → List (List ℕ) → List Tail
 rowTails i [] = []
 rowTails i (row ∷ rows) = record { row = i; nodes = row } ∷ rowTails (suc i) rows
+
+-- a row's number, and 65,536 where there is none
+abbrev pub rowNumber : Option ℕ → ℕ
+rowNumber none = 65536
+rowNumber (some i) = i

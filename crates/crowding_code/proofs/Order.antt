@@ -1,6 +1,6 @@
 -- Ascending rows, node by node; the bytes of the rows alone, and what the code finds in them. Assumes nothing.
 use Prim.Native.Nat.{ℕ, zero, suc, _+_, _-_, _*_, _/_, _≤_, _<_}
-use mathlib.Core.Path.{_≡_, refl, sym, ap, ap₂, subst, _∙_}
+use mathlib.Core.Path.{_≡_, sym, ap, ap₂, subst, _∙_}
 use mathlib.Core.List.{List, [], _∷_, flatten, append-nil}
 use native.Mathlib.Nat.{div-mul-le-self, div-lt-iff-lt-mul, sub-zero, not-suc-le-zero, le-of-suc-le-suc}
 use native.Mathlib.Omega.{arith}
@@ -12,11 +12,11 @@ use Rattle.lists.proofs.Alls.{all-getD}
 use Rattle.packing.specs.Rows.{ascending, rowsAt, firstCrowded}
 use Rattle.packing.proofs.RowsAt.{length-rowsAt, getD-rowsAt, rowsAt-lengths, flatten-rowsAt, rowsAt-flatten}
 use Rattle.packing.proofs.Members.{ascending-head, ascending-tail}
-use Rattle.crowding.specs.Shared.{rowNumber}
+use Rattle.crowding.specs.Tails.{rowNumber}
 use Rattle.crowding.specs.Tails.{lowestCrowded, rowTails}
 use Rattle.crowding.proofs.Crowded.{good-rows}
 use Rattle.crowding.proofs.TailsFirst.{lowest-first}
-use Rattle.crowding_code.specs.Chains.{rowEnd, Ascends}
+use Rattle.crowding_code.specs.Chains.{Ascends}
 
 from-low : (lo : ℕ) (row : List ℕ) → T (ascending lo row) → (k : ℕ) → k < length row → lo ≤ getD row k 0
 from-low lo [] a k h = absurd (not-suc-le-zero h)

@@ -1,17 +1,16 @@
 -- A walk along a chain that links what comes after each of its positions: the chains of the next level. Assumes nothing.
-use Prim.Native.Nat.{ℕ, zero, suc, _+_, _-_, _*_, _/_, _≤_, _<_}
+use Prim.Native.Nat.{ℕ, _+_, _-_, _*_, _/_, _≤_, _<_}
 use mathlib.Core.Path.{_≡_, refl, sym, ap, subst, _∙_}
 use mathlib.Core.List.{List, [], _∷_, _++_, append-nil}
 use native.Mathlib.Nat.{div-mul-le-self, lt-div-mul-add}
-use native.Mathlib.Numerals.{add-one}
 use native.Mathlib.Omega.{arith}
 use lib.ListN.{length, getD}
 use Rattle.lists.specs.Lists.{All}
 use Rattle.lists.proofs.Alls.{all-imp, all-append, all-append-left, all-append-right}
 use Rattle.crowding.specs.Tails.{Tail, tailsAfter}
-use Rattle.crowding_code.specs.Chains.{rowEnd, tailsAt, follow, chain, linked, Outside, Apart, Placed, Ascends, AtMost, EmptyTo, Fresh, AllChained, KeptOutside, KeptTo, Linked, Grown}
+use Rattle.crowding_code.specs.Chains.{rowEnd, tailsAt, follow, chain, Outside, Apart, Placed, Ascends, AtMost, EmptyTo, Fresh, AllChained, KeptOutside, KeptTo, Linked, Grown}
 use Rattle.crowding_code.proofs.Follow.{length-follow, follow-next, follow-kept, chain-empty}
-use Rattle.crowding_code.proofs.Rows.{in-row, row-end, rising, linked-none, linked-elim, tails-linked, nodesFrom, step}
+use Rattle.crowding_code.proofs.Rows.{in-row, row-end, linked-elim, tails-linked, nodesFrom, step}
 
 -- no two in one row: without a position of the middle, and with it in front
 module _ (r : ℕ) where

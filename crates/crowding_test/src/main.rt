@@ -54,7 +54,7 @@ fn build(rows: &mut [u8])
 fn tell(rows: &[u8], c: usize, x: usize, bound: usize)
     requires { ⌜ (c ≤ 4096) × (x < 5) × (length (now rows) ≡ 20480) × Grouped (now rows) ⌝ }
 {
-    let found = crowding::first_crowded(rows, c, 5, x, bound);
+    let found = crowding_code::first_crowded(rows, c, 5, x, bound);
     match found {
         RowFound::At(row) => {
             io::print_decimal(1, row.0 as u64);

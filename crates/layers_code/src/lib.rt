@@ -48,7 +48,7 @@ fn check_layers(
     let mut x: usize = 0;
     while x < layers {
         let c = size[x];
-        let found = crowding::first_crowded(&bytes[start..], c, r, x, bound[x]);
+        let found = crowding_code::first_crowded(&bytes[start..], c, r, x, bound[x]);
         if let RowFound::At(row) = found {
             return RowsAnswer::Refused(Refusal::Crowded(start + row.0 * r));
         }

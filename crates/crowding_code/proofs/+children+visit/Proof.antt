@@ -1,6 +1,6 @@
 -- `crowding_code::children` and `crowding_code::visit` meet their contracts: a level has one node fewer to choose than the
 -- chain that it comes from. Assumes nothing.
-use mathlib.Core.Path.{_≡_, refl, sym, _∙_}
+use mathlib.Core.Path.{_≡_, refl, _∙_}
 use lib.ListN.{length, getD}
 use Rattle.crowding_code.specs.Chains.{tailsAt, follow}
 use Rattle.crowding_code.proofs.Follow.{at-most-zero}

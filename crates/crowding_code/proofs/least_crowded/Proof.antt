@@ -1,8 +1,7 @@
 -- `crowding_code::least_crowded` meets its contract: the rows' nodes are the first level. Assumes nothing.
-use Prim.Native.Nat.{suc, _*_, _≤_, _<_}
+use Prim.Native.Nat.{suc}
 use mathlib.Core.Path.{refl, _∙_}
 use native.Mathlib.Nat.{mul-le-mul}
-use lib.ListN.{length}
 use Rattle.packing.specs.Rows.{rowsAt}
 use Rattle.crowding.specs.Tails.{rowTails}
 use Rattle.crowding_code.proofs.Follow.{at-most-zero}

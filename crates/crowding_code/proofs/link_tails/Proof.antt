@@ -5,7 +5,7 @@ use mathlib.Core.List.{List, []}
 use native.Mathlib.Nat.{div-le-self}
 use lib.ListN.{length, getD}
 use Rattle.crowding.specs.Tails.{Tail, tailsAfter}
-use Rattle.crowding_code.specs.Chains.{rowEnd, tailsAt, follow, chain, AtMost, KeptTo}
+use Rattle.crowding_code.specs.Chains.{tailsAt, follow, AtMost, KeptTo}
 use Rattle.crowding_code.proofs.Walks.{Walk, walk-start, walk-first, walk-end, walk-grown, walk-chained, walk-fresh, walk-kept, walk-on, chain-longer, row-start, before-end}
 use native.Mathlib.Omega.{arith}
 use borrow.Author.Needs.{needs}

@@ -1,7 +1,7 @@
 -- `crowding_code::lowest` meets its contract: the rest of the chain from the present least row number gives the answer.
 -- Assumes nothing.
 use Prim.Native.Nat.{ℕ, _-_, _<_}
-use mathlib.Core.Path.{_≡_, refl, ap, _∙_}
+use mathlib.Core.Path.{_≡_, ap, _∙_}
 use lib.ListN.{length, getD}
 use Rattle.lists.specs.Lists.{All}
 use Rattle.crowding_code.specs.Chains.{follow, lowestAt}

@@ -4,7 +4,7 @@ use native.Mathlib.Omega.{arith}
 use borrow.Author.Needs.{needs}
 use Rattle.crowding_test.proofs.tell.Statement.{statement}
 use Rattle.crowding_test.proofs.tell.Tie as tie
-use Rattle.crowding.proofs.first_crowded.Reads as first-crowded-reads
+use Rattle.crowding_code.proofs.first_crowded.Reads as first-crowded-reads
 use Rattle.io.proofs.print_decimal.Reads as print-decimal-reads
 use Rattle.io.proofs.write_all.Reads as write-all-reads
 
