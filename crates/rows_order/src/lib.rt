@@ -16,7 +16,7 @@ fn number_of(node: Node) -> usize
     v as usize
 }
 
-// Whether the row's nodes are strictly ascending and all below n.
+// Whether the row's nodes are strictly ascending and all below n: of ascending nodes only the last is compared with n.
 pub fn row_in_order(row: &[u8], n: usize) -> bool
     ensures { λ b. ⌜ b ≡ inOrder n (now (row .entry)) ⌝ }
 {
@@ -27,13 +27,10 @@ pub fn row_in_order(row: &[u8], n: usize) -> bool
         if node < least {
             return false;
         }
-        if n <= node {
-            return false;
-        }
         least = node + 1;
         i += 1;
     }
-    true
+    least <= n
 }
 
 // The first of the c rows of r bytes that is not strictly ascending or has a node at or above n.

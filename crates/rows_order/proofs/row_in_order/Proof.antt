@@ -6,7 +6,7 @@ use mathlib.Core.Path.{_≡_, refl, sym, _∙_, subst}
 use lib.ListN.{length, drop}
 use borrow.Author.Needs.{needs}
 use Rattle.packing.specs.Rows.{inOrder}
-use Rattle.rows_order.proofs.Order.{orderFrom, order-of-low, order-of-high, order-of-next, order-of-end}
+use Rattle.rows_order.proofs.Order.{orderFrom, order-of-start, order-of-low, order-of-next, order-of-end}
 use Rattle.rows_order.proofs.row_in_order.Statement.{statement}
 use Rattle.rows_order.proofs.row_in_order.Tie as tie
 
@@ -17,7 +17,7 @@ abbrev μ-loop : tie.MeasureT-loop
 μ-loop row n least₀ i₀ least i = length row - i
 
 loop-holds : tie.Need-loop-holds Inv-loop μ-loop
-loop-holds c = (search needs, refl)
+loop-holds c = (search needs, order-of-start (c .before .args .row .now) (c .before .args .n))
 
 shared-slice-read-t9 : tie.Need-shared-slice-read-t9 Inv-loop μ-loop
 shared-slice-read-t9 c = omega arith
@@ -33,16 +33,9 @@ returns c =
     let low = subst (λ (v : ℕ). v < l .least) (c .before .number-of .ensures) (c .if1 .taken) in
     sym (l .inv .1 ∙ order-of-low (a .row .now) (a .n) (l .least) (l .i) turn low)
 
-returns-2 : tie.Need-returns-2 Inv-loop μ-loop
-returns-2 c =
-    let a = c .before .before .before .before .before .before .before .args in
-    let l = c .before .before .before .before .before .loop in
-    let turn = c .before .before .before .before .loop-test .taken in
-    let high = subst (λ (v : ℕ). a .n ≤ v) (c .before .before .number-of .ensures) (c .if2 .taken) in
-    sym (l .inv .1 ∙ order-of-high (a .row .now) (a .n) (l .least) (l .i) turn high)
-
 add-least : tie.Need-add-least Inv-loop μ-loop
-add-least c = omega arith
+add-least c =
+    omega (arith, c .before .number-of .ensures, c .before .before .shared-slice-known2 .given (c .before .before .before .before .loop .i) .fits)
 
 add-i : tie.Need-add-i Inv-loop μ-loop
 add-i c = omega arith
@@ -52,18 +45,17 @@ loop-less c = omega arith
 
 loop-again : tie.Need-loop-again Inv-loop μ-loop
 loop-again c =
-    let a = c .before .before .before .before .before .before .before .args in
-    let l = c .before .before .before .before .before .loop in
-    let turn = c .before .before .before .before .loop-test .taken in
-    let node = c .before .before .number-of .ensures in
-    let low = subst (λ (v : ℕ). l .least ≤ v) node (c .before .if1 .left) in
-    let high = subst (λ (v : ℕ). v < a .n) node (c .if2 .left) in (
+    let a = c .before .before .before .before .before .before .args in
+    let l = c .before .before .before .before .loop in
+    let turn = c .before .before .before .loop-test .taken in
+    let node = c .before .number-of .ensures in
+    let low = subst (λ (v : ℕ). l .least ≤ v) node (c .if1 .left) in (
       omega arith,
-      rw node (l .inv .1 ∙ order-of-next (a .row .now) (a .n) (l .least) (l .i) turn low high),
+      rw node (l .inv .1 ∙ order-of-next (a .row .now) (a .n) (l .least) (l .i) turn low),
     )
 
-returns-3 : tie.Need-returns-3 Inv-loop μ-loop
-returns-3 c =
+returns-2 : tie.Need-returns-2 Inv-loop μ-loop
+returns-2 c =
     let a = c .before .before .before .args in
     let l = c .before .loop in
     sym (l .inv .1 ∙ order-of-end (a .row .now) (a .n) (l .least) (l .i) (c .loop-test .left))
@@ -78,9 +70,8 @@ row-in-order-spec =
     shared-slice-read-t9
     number-of-requires
     returns
-    returns-2
     add-least
     add-i
     loop-less
     loop-again
-    returns-3)
+    returns-2)
