@@ -49,7 +49,7 @@ fn plan_pack(
     if let OrderAnswer::Refused(e) = checked {
         return refuse(e);
     }
-    let counts = split::choose_counts(mu, m, s, k, b, work);
+    let counts = split_code::choose_counts(mu, m, s, k, b, work);
     let answer = planner_writer::write_placement(out, blocks, n, r, mu, m, s, k, b, counts);
     PlanResult { answer, counts }
 }

@@ -1,4 +1,4 @@
--- What the planner's code needs of the table: its numbers fit, it grows with the records, and its lowest row. Assumes nothing.
+-- What the planner's code needs of the table: its numbers fit, it grows with the records, and layer 0 takes what is left. Assumes nothing.
 use Prim.Native.Nat.{ℕ, zero, suc, _*_, _-_, _≤_, _<_, min, zero-le}
 use native.Mathlib.Nat.{le-refl, le-trans, le-antisymm, le-of-eq, min-le-left, min-le-right, mul-le-mul, eq-or-lt-of-le, eq-zero-or-pos}
 use native.Mathlib.Omega.{arith}
@@ -43,15 +43,9 @@ module _ (layers : List LayerHead) (s k : ℕ) where
       go (inr h) = le-of-eq (leastLoss-zero-pos b h)
   leastLoss-le-noSplit (suc x) b = le-trans (leastLoss-suc-le-self layers s k x b) (leastLoss-le-noSplit x b)
 
-  -- so the entries fit 16 bits, and so do the sums of which they are the least
+  -- so the entries fit 16 bits
   pub leastLoss-lt-65536 : (x b : ℕ) → leastLoss layers s k x b < 65_536
   leastLoss-lt-65536 x b = let h = leastLoss-le-noSplit x b in omega arith
-
-  pub lossAt-le : (x b c : ℕ) → c ≤ noSplit → lossAt layers s k x b c ≤ 16_384
-  lossAt-le x b c h =
-      let g = lossOf-le-noSplit x c h in
-      let l = leastLoss-le-noSplit x (b - c) in
-      omega arith
 
   -- more records lose no less
   pub leastLoss-mono : (x b c : ℕ) → b ≤ c → leastLoss layers s k x b ≤ leastLoss layers s k x c
@@ -70,12 +64,8 @@ module _ (layers : List LayerHead) (s k : ℕ) where
           let i = ih (omega arith) in
           omega arith
 
-  -- a larger count that costs no more in its layer serves as well: the smaller one need not be tried
-  pub lossAt-le-of-lossOf-le : (x b c d : ℕ) → c ≤ d → lossOf layers s k x d ≤ lossOf layers s k x c → lossAt layers s k x b d ≤ lossAt layers s k x b c
-  lossAt-le-of-lossOf-le x b c d h g = let m = leastLoss-mono x (b - d) (b - c) (omega arith) in omega arith
-
-  -- the lowest row: all records are in layer 0
-  pub leastLoss-one : (b : ℕ) → b ≤ noSplit → leastLoss layers s k 1 b ≡ lossOf layers s k 0 b
+  -- alone, layer 0 takes all the records
+  leastLoss-one : (b : ℕ) → b ≤ noSplit → leastLoss layers s k 1 b ≡ lossOf layers s k 0 b
   leastLoss-one b h =
       let e = lossAt-all layers s k 0 b in
       let g = leastLoss-suc-le layers s k 0 b b (le-refl b) in

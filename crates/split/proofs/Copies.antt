@@ -25,16 +25,8 @@ pub copiesFor-least : (c m d : ℕ) → c ≤ d * m → copiesFor c m ≤ d
 copiesFor-least c zero d g = rw (copiesFor-no-blocks c) zero-le
 copiesFor-least c (suc m) d g = copiesFor-le c (suc m) d (omega arith) g
 
-pub copiesFor-zero : (m : ℕ) → copiesFor 0 m ≡ 0
-copiesFor-zero m = let h = copiesFor-least 0 m 0 zero-le in omega arith
-
 -- no more copies than records
 pub copiesFor-le-self : (c m : ℕ) → copiesFor c m ≤ c
 copiesFor-le-self c zero = rw (copiesFor-no-blocks c) zero-le
 copiesFor-le-self c (suc m) =
     copiesFor-le c (suc m) c (omega arith) (le-mul-of-pos-right c (omega arith))
-
--- more records need no fewer copies
-pub copiesFor-mono : (c d m : ℕ) → c ≤ d → copiesFor c m ≤ copiesFor d m
-copiesFor-mono c d zero h = rw (copiesFor-no-blocks c) zero-le
-copiesFor-mono c d (suc m) h = copiesFor-le c (suc m) (copiesFor d (suc m)) (omega arith) (le-trans h (le-copiesFor-mul d (suc m) (omega arith)))

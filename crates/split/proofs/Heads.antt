@@ -66,12 +66,6 @@ module _ (layers : List LayerHead) where
       heldAt y (inl e) = rw e last
       heldAt y (inr g) = rw (agree y g) (h .held y g)
 
-  -- a layer without a block holds no record
-  pub split-no-block : (s b : ℕ) (split : ℕ → Share) → Split layers s b split → (x : ℕ) → x < s → layerAt layers x .size ≡ 0 → split x .count ≡ 0
-  split-no-block s b split h x l e =
-      let g : split x .count ≤ split x .copies * 0 = rw e at (h .held x l) in
-      omega arith
-
   -- each count is at most the records
   pub split-count-le : (s b : ℕ) (split : ℕ → Share) → Split layers s b split → (x : ℕ) → x < s → split x .count ≤ b
   split-count-le zero b split h x l = absurd (not-suc-le-zero l)

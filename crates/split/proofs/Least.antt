@@ -9,7 +9,7 @@ use lib.Dec.{leb}
 use borrow.Author.Tests.{leb-true, leb-false, le-leb, lt-leb}
 use Rattle.split.specs.Splits.{least, lastLeast}
 
-le-or-lt : (a b : ℕ) → (a ≤ b) ⊎ (b < a)
+pub le-or-lt : (a b : ℕ) → (a ≤ b) ⊎ (b < a)
 le-or-lt a b = go (leb a b) refl
   where
     go : (t : Bool) → leb a b ≡ t → (a ≤ b) ⊎ (b < a)
@@ -35,11 +35,15 @@ module _ (f : ℕ → ℕ) where
       omega arith
 
   -- one place more: it is taken where f is no larger there
-  lastLeast-suc-le : (top : ℕ) → f (suc top) ≤ least f top → lastLeast f (suc top) ≡ suc top
+  pub least-suc : (top : ℕ) → least f (suc top) ≡ min (f (suc top)) (least f top)
+  unfolding least
+  least-suc top = refl
+
+  pub lastLeast-suc-le : (top : ℕ) → f (suc top) ≤ least f top → lastLeast f (suc top) ≡ suc top
   unfolding lastLeast
   lastLeast-suc-le top h = ap (λ t. cond t (suc top) (lastLeast f top)) (le-leb (f (suc top)) (least f top) h)
 
-  lastLeast-suc-lt : (top : ℕ) → least f top < f (suc top) → lastLeast f (suc top) ≡ lastLeast f top
+  pub lastLeast-suc-lt : (top : ℕ) → least f top < f (suc top) → lastLeast f (suc top) ≡ lastLeast f top
   unfolding lastLeast
   lastLeast-suc-lt top h = ap (λ t. cond t (suc top) (lastLeast f top)) (lt-leb (f (suc top)) (least f top) h)
 

@@ -1,6 +1,7 @@
 pub mod Worked
 pub mod Lists
 pub mod Least
+pub mod Congruence
 pub mod Copies
 pub mod Losses
 pub mod LossOf
@@ -10,13 +11,6 @@ pub mod NamedCounts
 pub mod Named
 pub mod Bounds
 pub mod Terms
-pub mod Scans
-pub mod Entries
-pub mod Parts
-pub mod RowAbove
-pub mod Copied
-pub mod Congruence
 pub mod TableRows
-pub mod Filling
-pub mod Choosing
+pub mod Stepped
 pub mod Arrays

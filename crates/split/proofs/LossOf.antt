@@ -4,7 +4,7 @@ use native.Mathlib.Nat.{le-refl, le-trans, eq-zero-or-pos, mul-le-mul-right}
 use native.Mathlib.Omega.{arith}
 use mathlib.Core.Path.{_≡_, refl, sym, _∙_, ap}
 use mathlib.Core.Logic.{_⊎_, inl, inr}
-use mathlib.Core.Bool.{Bool, true, false, cond, _&&_}
+use mathlib.Core.Bool.{true, false, cond, _&&_, and-false}
 use mathlib.Core.List.{List}
 use lib.Dec.{eqb, ltb}
 use borrow.Author.Tests.{eq-eqb, ne-eqb, lt-ltb}
@@ -15,10 +15,6 @@ use Rattle.split.proofs.Copies.{le-copiesFor-mul, copiesFor-least}
 use Rattle.split.proofs.Losses.{loss-mono, loss-le-size}
 
 -- the test that a layer without a block is to hold a record
-and-false : (a : Bool) → (a && false) ≡ false
-and-false true = refl
-and-false false = refl
-
 pub refused-test : (m c : ℕ) → m ≡ 0 → 0 < c → (eqb m 0 && ltb 0 c) ≡ true
 refused-test m c e h = rw (eq-eqb m 0 e) (lt-ltb 0 c h)
 

@@ -36,11 +36,6 @@ module _ (layers : List LayerHead) (s k b : ℕ) (small : b ≤ 4_096) (block : 
   unfolding namedSplit
   namedSplit-losses = namedBelow-losses layers s k s b leastLoss-lt-noSplit
 
-  -- "Its figure is b less the losses."
-  pub named-figure : splitFigure layers s k b (namedSplit layers s k b) ≡ b - leastLoss layers s k s b
-  unfolding figureOf
-  named-figure = ap (λ l. b - l) namedSplit-losses
-
   -- "the splits with the highest figure"
   pub named-highest : (other : ℕ → Share) → Split layers s b other → splitFigure layers s k b other ≤ splitFigure layers s k b (namedSplit layers s k b)
   unfolding figureOf

@@ -4,11 +4,10 @@ use native.Mathlib.Nat.{lt-suc-self, not-suc-le-zero, eq-or-lt-of-le}
 use native.Mathlib.Omega.{arith}
 use mathlib.Core.Path.{_≡_, refl, sym, _∙_, ap}
 use mathlib.Core.Logic.{_⊎_, inl, inr}
-use mathlib.Core.List.{List, [], _∷_}
+use mathlib.Core.List.{List, [], _∷_, _++_}
 use lib.ListN.{length, getD, length-append, List·getD-append}
 use lib.Seq.{getD-at}
 use Rattle.lists.specs.Lists.{total, upTo}
-use Rattle.lists.proofs.Counts.{total-append}
 use Rattle.layers.specs.Layers.{LayerHead}
 use Rattle.placement.specs.Figure.{losses}
 use Rattle.split.specs.Splits.{Share, Split, Foremost, layerAt, splitHeads, shareOf, noSplit, lossOf, leastLoss, bestCount, namedCounts}
@@ -31,6 +30,11 @@ module _ (layers : List LayerHead) (s k : ℕ) where
   -- the chosen split of the layers below x
   abbrev pub namedBelow : (x b : ℕ) → ℕ → Share
   namedBelow x b = countsSplit layers (namedCounts layers s k x b)
+
+  pub namedCounts-suc : (x b : ℕ) → namedCounts layers s k (suc x) b
+      ≡ namedCounts layers s k x (b - bestCount layers s k x b) ++ (bestCount layers s k x b ∷ [])
+  unfolding namedCounts
+  namedCounts-suc x b = refl
 
   pub length-namedCounts : (x b : ℕ) → length (namedCounts layers s k x b) ≡ x
   unfolding namedCounts
@@ -72,15 +76,6 @@ module _ (layers : List LayerHead) (s k : ℕ) where
       (namedBelow-init x b)
       (rw e (bestCount-le layers s k x b))
       (rw e held)
-
-  pub total-namedCounts : (x b : ℕ) → leastLoss layers s k x b < noSplit → total (namedCounts layers s k x b) ≡ b
-  unfolding namedCounts total
-  total-namedCounts zero b h = sym (leastLoss-zero-lt layers s k b h)
-  total-namedCounts (suc x) b h =
-      let c = bestCount layers s k x b in
-      let g = bestCount-le layers s k x b in
-      let ih = total-namedCounts x (b - c) (leastLoss-rest-lt x b h) in
-      total-append (namedCounts layers s k x (b - c)) (c ∷ []) ∙ omega arith
 
   -- its losses are the least
   pub namedBelow-losses : (x b : ℕ) → leastLoss layers s k x b < noSplit → losses s k 0 (splitHeads layers x (namedBelow x b)) ≡ leastLoss layers s k x b

@@ -1,47 +1,9 @@
-// Splits of an order over a pack's layers.
-use loss::terms;
-use row::best_count;
-use table::fill;
-ghost use mathlib.Core.Path.{_≡_};
-ghost use Prim.Native.Nat.{suc, _*_, _≤_};
-ghost use lib.ListN.{length, drop};
-ghost use Rattle.layers.specs.Layers.{five};
-ghost use Rattle.split.specs.Splits.{namedCounts};
-ghost use Rattle.split.specs.Arrays.{arrayHeads};
-ghost use Rattle.split.specs.Table.{Limits};
+// Splits of an order over a pack's layers: definitions and laws. The code is in split_code.
 
-mod loss;
-mod row;
-mod table;
-
-// The counts of the named split, in the layers' order, 0 from layer s on. The first s × (b+1) entries of `work` are free
-// afterwards, the others are as they were.
-pub fn choose_counts(
-    mu: [usize; 5],
-    m: [usize; 5],
-    s: usize,
-    k: usize,
-    b: usize,
-    work: &mut [u16],
-) -> [usize; 5]
-    requires { ⌜ Limits mu m s k b × (s * suc b ≤ length (now work)) ⌝ }
-    ensures counts { λ r. ⌜ r ≡ five (namedCounts (arrayHeads mu m) s k s b) ⌝ }
-    ensures same_length { λ _. ⌜ length (now (work .exit)) ≡ length (now (work .entry)) ⌝ }
-    ensures rest { λ _. ⌜ drop (s * suc b) (now (work .exit)) ≡ drop (s * suc b) (now (work .entry)) ⌝ }
-{
-    fill(mu, m, s, k, b, work);
-    let w = b + 1;
-    let mut counts = [0usize; 5];
-    let mut left = b;
-    let mut x = s - 1;
-    while 0 < x {
-        let from = (x - 1) * w;
-        let end = from + w;
-        let c = best_count(&work[from..end], terms(mu, m, s, k, x), left);
-        counts[x] = c;
-        left -= c;
-        x -= 1;
-    }
-    counts[0] = left;
-    counts
+// A layer's losses in steps: `each` for each record, or `copy` / `lost` for each copy of `size` blocks, whichever is less.
+pub struct Steps {
+    pub size: usize,
+    pub each: usize,
+    pub copy: usize,
+    pub lost: usize,
 }

@@ -1,0 +1,145 @@
+-- A row of the table by two rules, each entry from the row below and one earlier entry. A layer's loss is the smaller of one
+-- cost for each record and one for each copy; a sum with a floor is the floor of the sum, and the least floor is the floor of
+-- the least. Assumes nothing.
+use Prim.Native.Nat.{ℕ, zero, suc, _+_, _*_, _-_, _/_, _≤_, _<_, min}
+use native.Mathlib.Nat.{le-refl, le-antisymm, le-of-lt, min-le-left, min-le-right, le-mul-of-pos-right, mul-le-mul-left, mul-le-mul-right, mul-one, suc-mul, mul-add-div, le-div-iff-mul-le}
+use native.Mathlib.Omega.{arith}
+use mathlib.Core.Path.{_≡_, sym, ap, _∙_}
+use mathlib.Core.Logic.{_⊎_, inl, inr}
+use mathlib.Core.List.{List, map}
+use lib.ListN.{length, getD}
+use Rattle.lists.specs.Lists.{upTo}
+use Rattle.lists.proofs.UpTo.{map-upTo-congr}
+use Rattle.split.specs.declared.Steps.{Steps}
+use Rattle.split.specs.Splits.{copiesFor, noSplit, least, lastLeast}
+use Rattle.split.specs.Table.{LossTerms, Rising, sumAt, rowAbove, stepsOf, stepSum, StepLimits, withSteps, stepped, rowEntry}
+use Rattle.split.proofs.Lists.{div-le-div-right}
+use Rattle.split.proofs.Least.{le-or-lt, least-le, le-least}
+use Rattle.split.proofs.Congruence.{least-congr, lastLeast-congr}
+use Rattle.split.proofs.Copies.{copiesFor-le, le-copiesFor-mul}
+use Rattle.split.proofs.Terms.{termLoss-steps}
+
+-- so many steps down from b are at or past its start
+steps-past : (b d size : ℕ) → 0 < size → b ≤ d → b - d * size ≡ 0
+steps-past b d size pos h = let g = le-mul-of-pos-right d pos in omega arith
+
+module _ (scale size cost : ℕ) (below : List ℕ) (pos : 0 < size) where
+  -- no number of steps costs less, steps past the start included
+  pub stepped-le : (b d : ℕ) → stepped scale size cost below b ≤ withSteps scale size cost below b d
+  unfolding stepped
+  stepped-le b d = go (le-or-lt d b)
+    where
+      go : (d ≤ b) ⊎ (b < d) → least (withSteps scale size cost below b) b ≤ withSteps scale size cost below b d
+      go (inl h) = least-le (withSteps scale size cost below b) b d h
+      go (inr h) =
+          let g : least (withSteps scale size cost below b) b ≤ scale * getD below 0 0 + b * cost =
+          rw (steps-past b b size pos (le-refl b)) at (least-le (withSteps scale size cost below b) b b (le-refl b)) in
+          let l = mul-le-mul-right cost (le-of-lt h) in
+          rw (steps-past b d size pos (le-of-lt h)) (omega arith)
+
+  pub le-stepped : (n b : ℕ) → ((d : ℕ) → n ≤ withSteps scale size cost below b d) → n ≤ stepped scale size cost below b
+  unfolding stepped
+  le-stepped n b h = le-least (withSteps scale size cost below b) n b (λ d l. h d)
+
+  withSteps-zero : (b : ℕ) → withSteps scale size cost below b 0 ≡ scale * getD below b 0
+  withSteps-zero b = let e : b - 0 * size ≡ b = omega arith in rw e (omega arith)
+
+  -- no record loses nothing, and no loss is above the mark
+  pub stepped-zero : Rising below → stepped scale size cost below 0 ≡ 0
+  stepped-zero r =
+      let e : 0 - 0 * size ≡ 0 = omega arith in
+      let h : stepped scale size cost below 0 ≤ scale * 0 + 0 * cost = rw (e, r .first) at (stepped-le 0 0) in
+      omega arith
+
+  pub stepped-le-mark : Rising below → (b : ℕ) → stepped scale size cost below b ≤ scale * noSplit
+  stepped-le-mark r b =
+      let h = stepped-le b 0 in
+      let e = withSteps-zero b in
+      let g = mul-le-mul-left scale (r .marked b) in
+      omega arith
+
+  -- one step more is a step from the entry `size` places before
+  withSteps-suc : (b d : ℕ) → withSteps scale size cost below b (suc d) ≡ withSteps scale size cost below (b - size) d + cost
+  withSteps-suc b d =
+      let e : b - suc d * size ≡ b - size - d * size = let q = suc-mul d size in omega arith in
+      let q = suc-mul d cost in
+      rw e (omega arith)
+
+  pub stepped-step : (b : ℕ) → stepped scale size cost below b ≡ min (scale * getD below b 0) (stepped scale size cost below (b - size) + cost)
+  stepped-step b =
+      le-antisymm least-of-both (le-stepped _ b none-less)
+    where
+      none-less : (d : ℕ) → min (scale * getD below b 0) (stepped scale size cost below (b - size) + cost) ≤ withSteps scale size cost below b d
+      none-less zero = let e = withSteps-zero b in omega arith
+      none-less (suc d) = let h = stepped-le (b - size) d in let e = withSteps-suc b d in omega arith
+
+      least-of-both : stepped scale size cost below b ≤ min (scale * getD below b 0) (stepped scale size cost below (b - size) + cost)
+      least-of-both =
+          let none = stepped-le b 0 in
+          let e = withSteps-zero b in
+          let more = le-stepped (stepped scale size cost below b - cost) (b - size)
+          (λ d. let h = stepped-le b (suc d) in let e = withSteps-suc b d in omega arith) in
+          omega arith
+
+module _ (u : Steps) (limits : StepLimits u) (below : List ℕ) (b : ℕ) where
+  -- the least loss where every record is paid for, and `lost` times that where every copy is
+  abbrev byRecords : ℕ
+  byRecords = stepped 1 1 (u .each) below b
+
+  abbrev byCopies : ℕ
+  byCopies = stepped (u .lost) (u .size) (u .copy) below b
+
+  floor-of-sum : (n d : ℕ) → (u .lost * n + d * u .copy) / u .lost ≡ n + d * u .copy / u .lost
+  floor-of-sum n d = mul-add-div (limits .lost-pos) n (d * u .copy)
+
+  least-le-byRecords : least (stepSum u below b) b ≤ byRecords
+  unfolding stepped
+  least-le-byRecords =
+      le-least _ _ b (λ c h.
+      let l = least-le (stepSum u below b) b c h in
+      rw (mul-one c) (omega arith))
+
+  -- of d copies the largest count is best
+  largest-count : (d : ℕ) → least (stepSum u below b) b ≤ getD below (b - d * u .size) 0 + d * u .copy / u .lost
+  largest-count d =
+      let c = min (d * u .size) b in
+      let l = least-le (stepSum u below b) b c (min-le-right _ b) in
+      let few = copiesFor-le c (u .size) d (limits .size-pos) (min-le-left _ b) in
+      let k = div-le-div-right _ _ (u .lost) (mul-le-mul-right (u .copy) few) in
+      let q : b - d * u .size ≡ b - c = omega arith in
+      rw q (omega arith)
+
+  least-le-byCopies : least (stepSum u below b) b ≤ byCopies / u .lost
+  least-le-byCopies =
+      le-div-iff-mul-le (limits .lost-pos) .1 (le-stepped (u .lost) (u .size) (u .copy) below (limits .size-pos) _ b
+      (λ d. le-div-iff-mul-le (limits .lost-pos) .0 (rw (floor-of-sum (getD below (b - d * u .size) 0) d) (largest-count d))))
+
+  none-less-of-both : Rising below → b < length below → (c : ℕ) → c ≤ b → rowEntry u below b ≤ stepSum u below b c
+  none-less-of-both r within c h =
+      let d = copiesFor c (u .size) in
+      let records : byRecords ≤ 1 * getD below (b - c) 0 + c * u .each = rw (mul-one c) at (stepped-le 1 1 (u .each) below (omega arith) b c) in
+      let held = le-copiesFor-mul c (u .size) (limits .size-pos) in
+      let copies = div-le-div-right _ _ (u .lost) (stepped-le (u .lost) (u .size) (u .copy) below (limits .size-pos) b d) in
+      let f = floor-of-sum (getD below (b - d * u .size) 0) d in
+      let up = r .rising (b - d * u .size) (b - c) (omega arith) (omega arith) in
+      omega arith
+
+  least-steps : Rising below → b < length below → least (stepSum u below b) b ≡ rowEntry u below b
+  least-steps r within =
+      let x = least-le-byRecords in
+      let y = least-le-byCopies in
+      le-antisymm (omega arith) (le-least (stepSum u below b) _ b (none-less-of-both r within))
+
+-- the whole row
+pub rowAbove-steps : (t : LossTerms) (below : List ℕ) → StepLimits (stepsOf t) → Rising below → length below ≤ 4_097
+    → rowAbove t below ≡ map (rowEntry (stepsOf t) below) (upTo (length below))
+rowAbove-steps t below limits r small =
+    map-upTo-congr _ _ (length below) (λ b h.
+    least-congr _ _ b (λ c l. ap (λ n. n + getD below (b - c) 0) (termLoss-steps t c (omega arith)))
+    ∙ least-steps (stepsOf t) limits below b r h)
+
+-- the largest count with the least loss
+pub lastLeast-steps : (t : LossTerms) (below : List ℕ) (b : ℕ) → b ≤ 4_096
+    → lastLeast (stepSum (stepsOf t) below b) b ≡ lastLeast (sumAt t below b) b
+lastLeast-steps t below b small =
+    lastLeast-congr _ _ b (λ c l. ap (λ n. n + getD below (b - c) 0) (sym (termLoss-steps t c (omega arith))))

@@ -1,0 +1,116 @@
+-- The largest count with the least loss, found by a scan in which a copy is added where the copies so far hold no more records.
+-- Assumes nothing.
+use Prim.Native.Nat.{ℕ, suc, _+_, _*_, _-_, _/_, _≤_, _<_, min}
+use native.Mathlib.Nat.{le-antisymm, sub-zero, suc-mul, zero-mul, zero-div, mul-le-mul-right, le-mul-of-pos-right}
+use native.Mathlib.Numerals.{add-one}
+use native.Mathlib.Omega.{arith}
+use mathlib.Core.Path.{_≡_, refl, sym, ap, _∙_}
+use mathlib.Core.Logic.{_⊎_, inl, inr}
+use mathlib.Core.List.{List}
+use lib.ListN.{getD}
+use Rattle.split.specs.declared.Steps.{Steps}
+use Rattle.split.specs.Splits.{copiesFor, least, lastLeast}
+use Rattle.split.specs.Table.{stepSum}
+use Rattle.split.proofs.Least.{le-or-lt, least-suc, lastLeast-suc-le, lastLeast-suc-lt}
+use Rattle.split.proofs.Copies.{copiesFor-le, le-copiesFor-mul}
+
+-- where a scan is: the places up to c were looked at
+pub record ScanTo (f : ℕ → ℕ) (c best low : ℕ) : Type 0 where
+  pub last-least : best ≡ lastLeast f c
+  pub low-least : low ≡ least f c
+
+scan-none : (f : ℕ → ℕ) {low : ℕ} → low ≡ f 0 → ScanTo f 0 0 low
+unfolding least lastLeast
+scan-none f e = record { last-least = refl; low-least = e }
+
+-- the next place is taken, or left
+scan-taken : (f : ℕ → ℕ) (c best low : ℕ) {now : ℕ} → ScanTo f c best low → now ≡ f (suc c) → now ≤ low → ScanTo f (suc c) (suc c) now
+scan-taken f c best low s e h =
+    let g = s .low-least in
+    let l = least-suc f c in
+    record { last-least = sym (lastLeast-suc-le f c (omega arith)); low-least = omega arith }
+
+scan-left : (f : ℕ → ℕ) (c best low : ℕ) {now : ℕ} → ScanTo f c best low → now ≡ f (suc c) → low < now → ScanTo f (suc c) best low
+scan-left f c best low s e h =
+    let g = s .low-least in
+    let l = least-suc f c in
+    record { last-least = s .last-least ∙ sym (lastLeast-suc-lt f c (omega arith)); low-least = omega arith }
+
+module _ (u : Steps) (below : List ℕ) (left : ℕ) where
+  -- the counts up to c were looked at; the copies hold c records, with one copy fewer at most c
+  pub record Counted (best low copies paid c : ℕ) : Type 0 where
+    pub within : c ≤ left
+    pub few : copies ≤ c + 1
+    pub held : c ≤ copies * u .size
+    pub needed : copies * u .size ≤ c + u .size
+    pub floor : paid ≡ copies * u .copy / u .lost
+    pub scan : ScanTo (stepSum u below left) c best low
+
+  pub counted-none : (low : ℕ) → low ≡ getD below left 0 → Counted 0 low 0 0 0
+  counted-none low e =
+      record {
+        within = omega arith;
+        few = omega arith;
+        held = omega arith;
+        needed = omega arith;
+        floor = sym (ap (λ n. n / u .lost) (zero-mul (u .copy)) ∙ zero-div (u .lost));
+        scan = scan-none (stepSum u below left) (e ∙ (rw (sub-zero left) (omega arith)));
+      }
+
+  module _ (blocks : 0 < u .size) (best low copies paid c : ℕ) (s : Counted best low copies paid c) (turn : c < left) where
+    -- one copy more
+    pub counted-more : copies * u .size ≡ c → Counted best low (copies + 1) ((copies + 1) * u .copy / u .lost) c
+    counted-more e =
+        let g = le-mul-of-pos-right copies blocks in
+        record {
+          within = s .within;
+          few = omega arith;
+          held = omega arith;
+          needed = omega arith;
+          floor = refl;
+          scan = s .scan;
+        }
+
+    -- or one record more
+    module _ (loss : ℕ) (room : c < copies * u .size) (e : loss ≡ min ((c + 1) * u .each) paid + getD below (left - (c + 1)) 0) where
+      copies-eq : copiesFor (suc c) (u .size) ≡ copies
+      copies-eq =
+          le-antisymm (copiesFor-le (suc c) (u .size) copies blocks (omega arith)) (go (le-or-lt copies (copiesFor (suc c) (u .size))))
+        where
+          go : (copies ≤ copiesFor (suc c) (u .size)) ⊎ (copiesFor (suc c) (u .size) < copies) → copies ≤ copiesFor (suc c) (u .size)
+          go (inl h) = h
+          go (inr h) =
+              let g = le-copiesFor-mul (suc c) (u .size) blocks in
+              let l = mul-le-mul-right (u .size) h in
+              let q = suc-mul (copiesFor (suc c) (u .size)) (u .size) in
+              let n = s .needed in
+              absurd (omega arith)
+
+      loss-eq : loss ≡ stepSum u below left (suc c)
+      loss-eq = e ∙ rw (add-one c, copies-eq, s .floor) refl
+
+      pub counted-taken : loss ≤ low → Counted (c + 1) loss copies paid (c + 1)
+      counted-taken h =
+          let f = s .few in
+          let n = s .needed in
+          record {
+            within = omega arith;
+            few = omega arith;
+            held = omega arith;
+            needed = omega arith;
+            floor = s .floor;
+            scan = rw add-one (scan-taken (stepSum u below left) c best low (s .scan) loss-eq h);
+          }
+
+      pub counted-left : low < loss → Counted best low copies paid (c + 1)
+      counted-left h =
+          let f = s .few in
+          let n = s .needed in
+          record {
+            within = omega arith;
+            few = omega arith;
+            held = omega arith;
+            needed = omega arith;
+            floor = s .floor;
+            scan = rw add-one (scan-left (stepSum u below left) c best low (s .scan) loss-eq h);
+          }

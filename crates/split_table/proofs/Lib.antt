@@ -1,0 +1,4 @@
+pub mod LayerSteps
+pub mod Parts
+pub mod Raising
+pub mod Filling
