@@ -1,12 +1,28 @@
 // `check`: reads a placement on standard input and prints its line, or the line of its refusal. No byte after the first
 // 32,768 changes what is printed.
+ghost use Prim.Native.Nat.{_≤_};
+ghost use lib.ListN.{length};
+ghost use Rattle.report.specs.Programs.{checkLine};
+ghost use Rattle.report.specs.Replies.{Replied};
 use libc::STDIN_FILENO;
 use libc::STDOUT_FILENO;
+use report::Reply;
+
+// Puts what is printed for the input at the start of `out`, and answers its length: a slice of 200 bytes is never refused.
+fn reply(input: &[u8], out: &mut [u8]) -> usize
+    requires { ⌜ 200 ≤ length (now out) ⌝ }
+    ensures { λ r. ⌜ Replied (checkLine (now (input .entry))) r (now (out .entry)) (now (out .exit)) ⌝ }
+{
+    let Reply::Written(length) = report_check::check_reply(input, out) else {
+        return 0;
+    };
+    length
+}
 
 fn main() {
     let mut buffer = [0u8; 32768];
     let n = io::read_full(STDIN_FILENO, &mut buffer);
     let mut out = [0u8; 200];
-    let length = report::check_reply(&buffer[0..n], &mut out);
+    let length = reply(&buffer[0..n], &mut out);
     io::write_all(STDOUT_FILENO, &out[0..length]);
 }

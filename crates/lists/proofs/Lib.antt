@@ -9,3 +9,5 @@ pub mod DoubleCount
 pub mod Parts
 pub mod Writing
 pub mod Largest
+pub mod Stores
+pub mod Totals

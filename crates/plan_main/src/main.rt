@@ -1,13 +1,29 @@
 // `plan`: reads s, k and b and then a pack on standard input, and writes the placement, or the line of the refusal. No byte
 // after the first 32,768 changes what is written.
+ghost use Prim.Native.Nat.{_≤_};
+ghost use lib.ListN.{length};
+ghost use Rattle.report.specs.Programs.{planReply};
+ghost use Rattle.report.specs.Replies.{Replied};
 use libc::STDIN_FILENO;
 use libc::STDOUT_FILENO;
+use report::Reply;
+
+// Puts what is written for the input at the start of `out`, and answers its length: such slices are never refused.
+fn reply(input: &[u8], work: &mut [u16], out: &mut [u8]) -> usize
+    requires { ⌜ (20_485 ≤ length (now work)) × (20_544 ≤ length (now out)) ⌝ }
+    ensures { λ r. ⌜ Replied (planReply (now (input .entry))) r (now (out .entry)) (now (out .exit)) ⌝ }
+{
+    let Reply::Written(length) = report_plan::plan_reply(input, work, out) else {
+        return 0;
+    };
+    length
+}
 
 fn main() {
     let mut buffer = [0u8; 32768];
     let n = io::read_full(STDIN_FILENO, &mut buffer);
     let mut work = [0u16; 20485];
     let mut out = [0u8; 20544];
-    let length = report::plan_reply(&buffer[0..n], &mut work, &mut out);
+    let length = reply(&buffer[0..n], &mut work, &mut out);
     io::write_all(STDOUT_FILENO, &out[0..length]);
 }

@@ -1,127 +1,76 @@
--- What `check` writes, from the answer of the placement's check. Assumes nothing.
-use Prim.Native.Nat.{ℕ, _+_, _*_, _-_, _≤_}
+-- The replies are refused exactly where a lent slice is too short, and stand within it otherwise. Assumes nothing.
+use Prim.Native.Nat.{ℕ, _≤_, _<_}
 use native.Mathlib.Omega.{arith}
-use mathlib.Core.Path.{_≡_, refl, sym, _∙_, ap}
-use mathlib.Core.List.{List, [], _∷_, _++_, flatten, append-nil}
-use lib.ListN.{length, take, drop, length-append}
-use lib.Seq.{drop-at}
-use lib.Dec.{T}
-use Rattle.lists.specs.Lists.{All}
-use Rattle.lists.proofs.Alls.{all-imp}
+use mathlib.Core.Path.{_≡_, refl, ap}
+use mathlib.Core.List.{List, _++_}
+use lib.ListN.{length, drop, length-append}
+use borrow.Author.Tests.{le-leb, lt-leb}
 use Rattle.refusal.specs.declared.Refusal.{Refusal}
-use Rattle.refusal.specs.Checked.{Checked, accepted, refused}
-use Rattle.number.specs.Numbers.{Bytes}
-use Rattle.packing.specs.Rows.{Row, inOrder, rowsAt}
-use Rattle.lists.proofs.Writing.{take-drop-rest}
-use Rattle.layers.specs.Layers.{allRows}
-use Rattle.layers.proofs.Lengths.{length-flatten-rows, length-allRows}
-use Rattle.packing.proofs.RowsAt.{rowsAt-flatten}
-use Rattle.placement.specs.Placement.{Placement, GoodPlacement, checkPlacement}
-use Rattle.placement.specs.Answers.{placementChecked}
-use Rattle.placement.specs.declared.PlacementAnswer.the-variants.{Accepted, Refused}
-use Rattle.placement.specs.declared.PlacementCheck.{PlacementCheck}
-use Rattle.placement.proofs.Accepted.{placement-accepted-iff}
-use Rattle.report.specs.Load.{most, mean}
-use Rattle.report.specs.Programs.{rest, acceptedWord, acceptedLine, refusedLine, checkLine}
+use Rattle.refusal.specs.declared.Refusal.the-variants.{ShortWork, ShortOutput}
+use Rattle.refusal.specs.Checked.{Checked, accepted, refused, written}
+use Rattle.report.specs.Programs.{checkLine, planReply}
+use Rattle.report.specs.Answers.{reply}
+use Rattle.report.specs.declared.Reply.{Reply}
+use Rattle.report.specs.declared.Reply.the-variants.{Written, Refused}
+use Rattle.report.specs.Replies.{Replied, checkSlice, planSlices, checkInto, planInto}
 
--- the last m elements
-drop-last : (h t l : List ℕ) (m : ℕ) → l ≡ h ++ t → length t ≡ m → drop (length l - m) l ≡ t
-drop-last h t l m e len =
-    let place : length h ≡ length l - m = omega (arith, ap length e, length-append h t) in
-    rw e (drop-at h t (length (h ++ t) - m) (rw (← e) place))
+module _ (output : ℕ) where
+  pub check-short : output < 200 → checkSlice output ≡ refused (ShortOutput 200)
+  unfolding checkSlice
+  check-short short = rw (lt-leb 200 output short)
 
--- the input from `at` on, as the code lends it
-abbrev pub rowsPart : (input : List ℕ) (at : ℕ) → List ℕ
-rowsPart input at = take (length input - at) (drop at input)
+  pub check-enough : 200 ≤ output → checkSlice output ≡ accepted tt
+  unfolding checkSlice
+  check-enough enough = rw (le-leb 200 output enough)
 
--- An accepted input's rows start at `at` and are all in order, and its line has these numbers.
-pub record LineOf (input : List ℕ) (n r k b figure at : ℕ) : Type 0 where
-  pub n-least : 1 ≤ n
-  pub n-most : n ≤ 255
-  pub r-most : r ≤ 5
-  pub b-most : b ≤ 4_096
-  pub inside : at ≤ length input
-  pub room : b * r ≤ length (rowsPart input at)
-  pub ordered : All (λ row. T (inOrder n row)) (rowsAt r b (rowsPart input at))
-  pub line : checkLine input
-      ≡ acceptedWord ++ rest (figure ∷ b ∷ k ∷ n ∷ most n (rowsAt r b (rowsPart input at)) ∷ mean b r n ∷ [])
+  -- In a slice as long as that of the program `check`, its line is never refused.
+  pub checkInto-enough : (input : List ℕ) → 200 ≤ output → checkInto input output ≡ accepted (checkLine input)
+  unfolding checkInto
+  checkInto-enough input enough = rw (check-enough enough)
 
-module _ (input : List ℕ) (p : Placement) (bytes : Bytes input) (e : checkPlacement input ≡ accepted p) where
-  good : GoodPlacement p
-  good = placement-accepted-iff input p bytes .0 e .1
+module _ (work output : ℕ) where
+  pub plan-short-work : work < 20_485 → planSlices work output ≡ refused (ShortWork 20_485)
+  unfolding planSlices
+  plan-short-work short = rw (lt-leb 20_485 work short)
 
-  abbrev flat : List ℕ
-  flat = flatten (allRows (p .layers))
+  module _ (entries : 20_485 ≤ work) where
+    pub plan-short-output : output < 20_544 → planSlices work output ≡ refused (ShortOutput 20_544)
+    unfolding planSlices
+    plan-short-output short = rw (le-leb 20_485 work entries, lt-leb 20_544 output short)
 
-  lengths : All (λ row. length row ≡ p .r) (allRows (p .layers))
-  lengths = all-imp (Row (p .n) (p .r)) (λ row. length row ≡ p .r) (λ row h. h .0) (allRows (p .layers)) (good .rows)
+    pub plan-enough : 20_544 ≤ output → planSlices work output ≡ accepted tt
+    unfolding planSlices
+    plan-enough bytes = rw (le-leb 20_485 work entries, le-leb 20_544 output bytes)
 
-  records : length (allRows (p .layers)) ≡ p .b
-  records = length-allRows (p .layers) ∙ good .limits .records-all
+    -- In slices as long as those of the program `plan`, its reply is never refused.
+    pub planInto-enough : (input : List ℕ) → 20_544 ≤ output → planInto input work output ≡ accepted (planReply input)
+    unfolding planInto
+    planInto-enough input bytes = rw (plan-enough bytes)
 
-  flat-length : length flat ≡ p .b * p .r
-  flat-length = length-flatten-rows (p .r) (allRows (p .layers)) lengths ∙ ap (λ c. c * p .r) records
+-- A reply at the slice's start is within it.
+pub replied-of : (reply : List ℕ) (answer : ℕ) (before after : List ℕ) → answer ≡ length reply
+    → after ≡ reply ++ drop (length reply) before → Replied reply answer before after
+replied-of reply answer before after e w =
+    record {
+      answered = e;
+      inside = omega (arith, ap length w, length-append reply (drop (length reply) before));
+      written = w;
+    }
 
-  -- the rows are the input's last bytes
-  input-rows : rowsPart input (length input - p .b * p .r) ≡ flat
-  input-rows =
-      let (h, forms, whole) = placement-accepted-iff input p bytes .0 e .0 in
-      take-drop-rest input (length input - p .b * p .r) ∙ drop-last h flat input (p .b * p .r) whole flat-length
+-- What an answer says of the slice that was lent.
+module _ (o : Checked (List ℕ)) {answer : Reply} (is : answer ≡ reply o) where
+  pub reply-not-refused : {bytes : List ℕ} {why : Refusal} → o ≡ accepted bytes → answer ≡ Refused why → ⊥
+  reply-not-refused e a = let z : _≡_ {A = ℕ} 0 1 = cc in omega arith
 
-  rows-taken : rowsAt (p .r) (p .b) flat ≡ allRows (p .layers)
-  rows-taken =
-      rw (← records, ← append-nil flat) (rowsAt-flatten (p .r) (allRows (p .layers)) [] lengths)
+  module _ {n : ℕ} (a : answer ≡ Written n) (before : List ℕ) {after : List ℕ} (left : after ≡ written o before) where
+    -- the reply itself
+    pub reply-written : {bytes : List ℕ} → o ≡ accepted bytes → Replied bytes n before after
+    reply-written {bytes} e =
+        let same : n ≡ length bytes = cc in
+        replied-of bytes n before after same (rw e at left)
 
-  pub line-of-accepted : LineOf input (p .n) (p .r) (p .k) (p .b) (p .figure) (length input - p .b * p .r)
-  unfolding checkLine acceptedLine
-  line-of-accepted =
-      let l = good .limits in
-      record {
-        n-least = omega arith;
-        n-most = l .n-most;
-        r-most = l .r-most;
-        b-most = l .b-most;
-        inside = omega arith;
-        room = rw input-rows (omega (arith, flat-length));
-        ordered = rw (input-rows, rows-taken) (all-imp (Row (p .n) (p .r)) (λ row. T (inOrder (p .n) row)) (λ row h. h .1) (allRows (p .layers)) (good .rows));
-        line = rw (input-rows, rows-taken, e);
-      }
-
--- what the code's answer says
-pub line-of-check : (input : List ℕ) (check : PlacementCheck) {n r s k b figure at : ℕ} → Bytes input
-    → check ≡ placementChecked input (checkPlacement input) → check .answer ≡ Accepted n r s k b figure at
-    → LineOf input n r k b figure at
-line-of-check input check {n} {r} {s} {k} {b} {figure} {at} bytes e a = go (checkPlacement input) refl
-  where
-    go : (o : Checked Placement) → checkPlacement input ≡ o → LineOf input n r k b figure at
-    go (accepted p) o =
-        let same : Accepted n r s k b figure at ≡ Accepted (p .n) (p .r) (p .s) (p .k) (p .b) (p .figure) (length input - p .b * p .r) =
-        sym a ∙ ap (λ check. check .answer) (e ∙ ap (placementChecked input) o) in
-        let e₁ : n ≡ p .n = cc in
-        let e₂ : r ≡ p .r = cc in
-        let e₃ : k ≡ p .k = cc in
-        let e₄ : b ≡ p .b = cc in
-        let e₅ : figure ≡ p .figure = cc in
-        let e₆ : at ≡ length input - p .b * p .r = cc in
-        rw (e₁, e₂, e₃, e₄, e₅, e₆) (line-of-accepted input p bytes o)
-    go (refused why) o =
-        let other : Accepted n r s k b figure at ≡ Refused why =
-        sym a ∙ ap (λ check. check .answer) (e ∙ ap (placementChecked input) o) in
-        absurd (let z : _≡_ {A = ℕ} 0 1 = cc in omega arith)
-
-pub refused-of-check : (input : List ℕ) (check : PlacementCheck) {why : Refusal}
-    → check ≡ placementChecked input (checkPlacement input) → check .answer ≡ Refused why
-    → checkLine input ≡ refusedLine why
-unfolding checkLine
-refused-of-check input check {why} e a = go (checkPlacement input) refl
-  where
-    go : (o : Checked Placement) → checkPlacement input ≡ o → checkLine input ≡ refusedLine why
-    go (accepted p) o =
-        let other : Refused why ≡ Accepted (p .n) (p .r) (p .s) (p .k) (p .b) (p .figure) (length input - p .b * p .r) =
-        sym a ∙ ap (λ check. check .answer) (e ∙ ap (placementChecked input) o) in
-        absurd (let z : _≡_ {A = ℕ} 0 1 = cc in omega arith)
-    go (refused other) o =
-        let same : Refused why ≡ Refused other =
-        sym a ∙ ap (λ check. check .answer) (e ∙ ap (placementChecked input) o) in
-        let e₁ : other ≡ why = cc in
-        rw (o, e₁)
+-- a reply that was written is within the slice
+pub reply-inside : (o : Checked (List ℕ)) {answer : Reply} {n : ℕ} (before : List ℕ) {after : List ℕ} → answer ≡ reply o
+    → answer ≡ Written n → after ≡ written o before → n ≤ length after
+reply-inside (accepted bytes) before is a left = reply-written (accepted bytes) is a before left refl .inside
+reply-inside (refused e) before is a left = absurd (let z : _≡_ {A = ℕ} 0 1 = cc in omega arith)

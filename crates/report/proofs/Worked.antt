@@ -1,8 +1,10 @@
--- Document 01's line and reply for nine records, by computation. Assumes nothing.
+-- Document 01's line and reply for nine records, and lent slices at their limits, by computation. Assumes nothing.
+use Prim.Native.Nat.{ℕ}
 use mathlib.Core.Path.{_≡_, refl, _∙_, ap}
-use mathlib.Core.List.{[], _∷_, _++_, flatten}
+use mathlib.Core.List.{List, [], _∷_, _++_, flatten}
 use Rattle.lists.specs.Lists.{count, largest, upTo}
-use Rattle.refusal.specs.Checked.{mapAccepted}
+use Rattle.refusal.specs.declared.Refusal.the-variants.{ShortWork, ShortOutput}
+use Rattle.refusal.specs.Checked.{accepted, refused, mapAccepted}
 use Rattle.number.specs.Numbers.{readGroups, readNumber}
 use Rattle.packing.specs.Rows.{member}
 use Rattle.packing.specs.SevenCabinets.{row245}
@@ -13,13 +15,24 @@ use Rattle.placement.proofs.Worked.{placements}
 use Rattle.planner.specs.Planning.{planned}
 use Rattle.planner.proofs.Worked.{orders}
 use Rattle.report.specs.Load.{load, most, mean}
-use Rattle.report.specs.Programs.{digits, decimal, rest, acceptedWord, acceptedLine, orRefusedLine, checkLine, planInput, planReply}
+use Rattle.report.specs.Programs.{digits, decimal, rest, acceptedWord, acceptedLine, orRefusedLine, checkLine, readOrder, planInput, planReply}
+use Rattle.report.specs.Replies.{checkSlice, planSlices, checkInto, planInto}
 
 -- "`check` prints `accepted 5 9 3 7 4 4`"; `plan` with the numbers 2 3 9 and then P writes the whole file
 pub lines : (checkLine (placementFile 5) ≡ acceptedWord ++ (32 ∷ 53 ∷ 32 ∷ 57 ∷ 32 ∷ 51 ∷ 32 ∷ 55 ∷ 32 ∷ 52 ∷ 32 ∷ 52 ∷ 10 ∷ []))
     × (planReply (2 ∷ 3 ∷ 9 ∷ packBytes row245) ≡ placementFile 5)
-unfolding count largest upTo flatten member readGroups readNumber packBytes sevenPlacement planned load most mean digits decimal rest acceptedLine checkLine planInput planReply
+unfolding count largest upTo flatten member readGroups readNumber packBytes sevenPlacement planned load most mean digits decimal rest acceptedLine checkLine readOrder planInput planReply
 lines = (
   ap (λ a. orRefusedLine (mapAccepted acceptedLine a)) (placements .1),
   ap (λ a. orRefusedLine (mapAccepted placementBytes a)) (orders .8) ∙ orders .9,
 )
+
+-- a slice one byte or entry short is refused with what is needed, 10 before 11, and one of that length is taken
+pub lent : (input : List ℕ)
+    → (checkInto input 199 ≡ refused (ShortOutput 200))
+    × (checkInto input 200 ≡ accepted (checkLine input))
+    × (planInto input 20_484 20_543 ≡ refused (ShortWork 20_485))
+    × (planInto input 20_485 20_543 ≡ refused (ShortOutput 20_544))
+    × (planInto input 20_485 20_544 ≡ accepted (planReply input))
+unfolding checkSlice planSlices checkInto planInto
+lent input = (refl, refl, refl, refl, refl)

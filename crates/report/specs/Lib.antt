@@ -1,3 +1,4 @@
 pub mod Load
 pub mod Programs
 pub mod Replies
+pub mod Answers

@@ -56,18 +56,31 @@ orRefusedLine (refused e) = refusedLine e
 unfoldable pub checkLine : (input : List ℕ) → List ℕ
 checkLine input = orRefusedLine (mapAccepted acceptedLine (checkPlacement input))
 
--- one of `plan`'s three numbers: those "that can't be read give 12 and the first bad one's index"
-abbrev pub readOrder : (index : ℕ) → Checked Reading → Checked Reading
-readOrder index (accepted number) = accepted number
-readOrder index (refused e) = refused (BadOrder index)
+-- The order that `plan` reads, and the place of its pack.
+pub record Order : Type 0 where
+  pub s : ℕ
+  pub k : ℕ
+  pub b : ℕ
+  pub at : ℕ
 
--- "`plan` reads s, k, b as numbers, then a pack ..; places counted from the pack's first byte"
+-- one of the three numbers: those "that can't be read give 12 and the first bad one's index"
+abbrev pub orderNumber : (index : ℕ) → Checked Reading → Checked Reading
+orderNumber index (accepted number) = accepted number
+orderNumber index (refused e) = refused (BadOrder index)
+
+-- "`plan` reads s, k, b as numbers"
+unfoldable pub readOrder : (input : List ℕ) → Checked Order
+readOrder input = do
+  s ← orderNumber 0 (readNumber input 0)
+  k ← orderNumber 1 (readNumber input (s .next))
+  b ← orderNumber 2 (readNumber input (k .next))
+  accepted (record { s = s .value; k = k .value; b = b .value; at = b .next })
+
+-- "then a pack ..; places counted from the pack's first byte"
 unfoldable pub planInput : (input : List ℕ) → Checked Placement
 planInput input = do
-  s ← readOrder 0 (readNumber input 0)
-  k ← readOrder 1 (readNumber input (s .next))
-  b ← readOrder 2 (readNumber input (k .next))
-  planned (drop (b .next) input) (s .value) (k .value) (b .value)
+  order ← readOrder input
+  planned (drop (order .at) input) (order .s) (order .k) (order .b)
 
 -- "and writes the placement or the refused line": what it writes
 unfoldable pub planReply : (input : List ℕ) → List ℕ

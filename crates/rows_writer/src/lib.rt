@@ -5,8 +5,8 @@ ghost use mathlib.Core.List.{_++_, flatten};
 ghost use lib.ListN.{length, drop};
 ghost use Rattle.packing.specs.Rows.{rowsAt, repeated};
 
-// Writes the row to the start of `out`.
-fn copy_row(out: &mut [u8], row: &[u8])
+// Writes the row, or other bytes, to the start of `out`.
+pub fn copy_row(out: &mut [u8], row: &[u8])
     requires { ⌜ length (now row) ≤ length (now out) ⌝ }
     ensures { λ _. ⌜ now (out .exit) ≡ now (row .entry) ++ drop (length (now (row .entry))) (now (out .entry)) ⌝ }
 {

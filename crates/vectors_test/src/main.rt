@@ -5,6 +5,7 @@ ghost use mathlib.Core.Path.{_≡_};
 ghost use lib.ListN.{length};
 use libc::STDIN_FILENO;
 use libc::STDOUT_FILENO;
+use report::Reply;
 
 // The number in four bytes, lowest first.
 fn of_four(a: u8, b: u8, c: u8, d: u8) -> usize {
@@ -101,15 +102,34 @@ fn count(counts: &mut [usize], i: usize)
     }
 }
 
-// Puts what `check` prints, or what `plan` writes, at the start of `out`, and answers its length.
+// Puts what `check` prints at the start of `out`, and answers its length; 0 where the slice is refused.
+fn checked(input: &[u8], out: &mut [u8]) -> usize
+    ensures { λ r. ⌜ r ≤ length (now (out .exit)) ⌝ }
+{
+    let Reply::Written(n) = report_check::check_reply(input, out) else {
+        return 0;
+    };
+    n
+}
+
+// The same of what `plan` writes.
+fn planned(input: &[u8], work: &mut [u16], out: &mut [u8]) -> usize
+    ensures { λ r. ⌜ r ≤ length (now (out .exit)) ⌝ }
+{
+    let Reply::Written(n) = report_plan::plan_reply(input, work, out) else {
+        return 0;
+    };
+    n
+}
+
+// The one or the other.
 fn replied(plans: bool, input: &[u8], work: &mut [u16], out: &mut [u8]) -> usize
-    requires { ⌜ (20_485 ≤ length (now work)) × (20_544 ≤ length (now out)) ⌝ }
     ensures { λ r. ⌜ r ≤ length (now (out .exit)) ⌝ }
 {
     if plans {
-        return report::plan_reply(input, work, out);
+        return planned(input, work, out);
     }
-    report::check_reply(input, out)
+    checked(input, out)
 }
 
 // Runs one vector: counts the kind of its expected reply, and at 13 whether the reply differs.
@@ -121,7 +141,7 @@ fn run_one(
     out: &mut [u8],
     counts: &mut [usize],
 )
-    requires { ⌜ (20_485 ≤ length (now work)) × (20_544 ≤ length (now out)) × (length (now counts) ≡ 14) ⌝ }
+    requires { ⌜ length (now counts) ≡ 14 ⌝ }
 {
     count(counts, kind(expected));
     let n = replied(plans, input, work, out);
@@ -140,7 +160,7 @@ fn run(
     out: &mut [u8],
     counts: &mut [usize],
 ) -> usize
-    requires { ⌜ (20_485 ≤ length (now work)) × (20_544 ≤ length (now out)) × (length (now counts) ≡ 14) ⌝ }
+    requires { ⌜ length (now counts) ≡ 14 ⌝ }
 {
     let mut cases: usize = 0;
     while cases < 1_000_000 {
@@ -201,17 +221,13 @@ fn tell(plans: bool, cases: usize, counts: &[usize])
     }
 }
 
-fn run_kind(plans: bool, input: &mut [u8], expected: &mut [u8], work: &mut [u16], out: &mut [u8])
-    requires { ⌜ (20_485 ≤ length (now work)) × (20_544 ≤ length (now out)) ⌝ }
-{
+fn run_kind(plans: bool, input: &mut [u8], expected: &mut [u8], work: &mut [u16], out: &mut [u8]) {
     let mut counts = [0usize; 14];
     let cases = run(plans, input, expected, work, out, &mut counts);
     tell(plans, cases, &counts);
 }
 
-fn run_both(input: &mut [u8], expected: &mut [u8], work: &mut [u16], out: &mut [u8])
-    requires { ⌜ (20_485 ≤ length (now work)) × (20_544 ≤ length (now out)) ⌝ }
-{
+fn run_both(input: &mut [u8], expected: &mut [u8], work: &mut [u16], out: &mut [u8]) {
     run_kind(false, input, expected, work, out);
     run_kind(true, input, expected, work, out);
 }

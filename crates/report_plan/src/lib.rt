@@ -1,0 +1,87 @@
+// The reply of the program `plan`, put into slices that a caller lends.
+ghost use mathlib.Core.Path.{_≡_};
+ghost use Prim.Native.Nat.{_≤_};
+ghost use lib.ListN.{length};
+ghost use Rattle.refusal.specs.Checked.{written};
+ghost use Rattle.planner.specs.Planning.{planned};
+ghost use Rattle.report.specs.Programs.{readOrder, planInput, planReply};
+ghost use Rattle.report.specs.Replies.{Replied, plannedReply, planInto, WorkLeft, PlanWork};
+ghost use Rattle.report.specs.Answers.{reply, orderRead};
+use number::NumberRead;
+use planner::PlanAnswer;
+use refusal::Refusal;
+use report::OrderRead;
+use report::Reply;
+
+// Reads s, k and b at the start of the input.
+fn read_order(input: &[u8]) -> OrderRead
+    ensures { λ r. ⌜ r ≡ orderRead (readOrder (now (input .entry))) ⌝ }
+{
+    let NumberRead::Value(s, k_at) = number_reader::read_number(input, 0) else {
+        return OrderRead::Refused(Refusal::BadOrder(0));
+    };
+    let NumberRead::Value(k, b_at) = number_reader::read_number(input, k_at) else {
+        return OrderRead::Refused(Refusal::BadOrder(1));
+    };
+    let NumberRead::Value(b, pack_at) = number_reader::read_number(input, b_at) else {
+        return OrderRead::Refused(Refusal::BadOrder(2));
+    };
+    OrderRead::Value {
+        s,
+        k,
+        b,
+        at: pack_at,
+    }
+}
+
+// Puts the placement that is planned, or the line of the refusal, at the start of `out`, and answers its length.
+fn planned_reply(
+    pack: &[u8],
+    s: usize,
+    k: usize,
+    b: usize,
+    work: &mut [u16],
+    out: &mut [u8],
+) -> usize
+    requires { ⌜ (20_485 ≤ length (now work)) × (20_544 ≤ length (now out)) ⌝ }
+    ensures { λ r. ⌜ Replied (plannedReply (now (pack .entry)) s k b) r (now (out .entry)) (now (out .exit)) ⌝ }
+    ensures { λ _. ⌜ WorkLeft (planned (now (pack .entry)) s k b) (now (work .entry)) (now (work .exit)) ⌝ }
+{
+    let result = planner_code::plan(pack, s, k, b, work, out);
+    let answer = result.answer;
+    match answer {
+        PlanAnswer::Planned { length, figure: _ } => length,
+        PlanAnswer::Refused(e) => report_lines::refused_line(out, e),
+    }
+}
+
+// Puts what `plan` writes for the input at the start of `out`, and answers its length.
+fn plan_input(input: &[u8], work: &mut [u16], out: &mut [u8]) -> usize
+    requires { ⌜ (20_485 ≤ length (now work)) × (20_544 ≤ length (now out)) ⌝ }
+    ensures { λ r. ⌜ Replied (planReply (now (input .entry))) r (now (out .entry)) (now (out .exit)) ⌝ }
+    ensures { λ _. ⌜ WorkLeft (planInput (now (input .entry))) (now (work .entry)) (now (work .exit)) ⌝ }
+{
+    match read_order(input) {
+        OrderRead::Refused(e) => report_lines::refused_line(out, e),
+        OrderRead::Value { s, k, b, at } => planned_reply(&input[at..], s, k, b, work, out),
+    }
+}
+
+// Puts what `plan` writes for the input at the start of `out`, and answers its length; a working slice of fewer than 20,485
+// entries and an output of fewer than 20,544 bytes are refused.
+pub fn plan_reply(input: &[u8], work: &mut [u16], out: &mut [u8]) -> Reply
+    ensures { λ r. ⌜ (r ≡ reply (planInto (now (input .entry)) (length (now (work .entry))) (length (now (out .entry)))))
+        × (now (out .exit)
+        ≡ written (planInto (now (input .entry)) (length (now (work .entry))) (length (now (out .entry)))) (now (out .entry))) ⌝ }
+    ensures { λ _. ⌜ PlanWork (now (input .entry)) (length (now (work .entry))) (length (now (out .entry)))
+        (now (work .entry)) (now (work .exit)) ⌝ }
+{
+    if work.len() < 20_485 {
+        return Reply::Refused(Refusal::ShortWork(20_485));
+    }
+    if out.len() < 20_544 {
+        return Reply::Refused(Refusal::ShortOutput(20_544));
+    }
+    let length = plan_input(input, work, out);
+    Reply::Written(length)
+}
