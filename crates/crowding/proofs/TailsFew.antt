@@ -8,7 +8,7 @@ use borrow.Author.Tests.{le-ltb}
 use Rattle.lists.proofs.Tests.{cond-elim}
 use Rattle.crowding.specs.Tails.{Tail, past, leaves, tailsAfter, overNodes, lowestCrowded}
 
-length-after-le : (w v : ℕ) (tails found : List Tail) → length (tailsAfter w v tails found) ≤ length tails + length found
+pub length-after-le : (w v : ℕ) (tails found : List Tail) → length (tailsAfter w v tails found) ≤ length tails + length found
 unfolding tailsAfter
 length-after-le w v [] found = omega arith
 length-after-le w v (t ∷ tails) found =
@@ -16,7 +16,7 @@ length-after-le w v (t ∷ tails) found =
     (λ e. omega (arith, length-after-le w v tails (record { row = t .row; nodes = past v (t .nodes) } ∷ found)))
     (λ e. omega (arith, length-after-le w v tails found))
 
-pub over-nodes-same : (step : ℕ → ℕ → ℕ) → ((v least : ℕ) → step v least ≡ least) → (n least : ℕ) → overNodes step n least ≡ least
+over-nodes-same : (step : ℕ → ℕ → ℕ) → ((v least : ℕ) → step v least ≡ least) → (n least : ℕ) → overNodes step n least ≡ least
 unfolding overNodes
 over-nodes-same step same zero least = refl
 over-nodes-same step same (suc v) least = over-nodes-same step same v (step v least) ∙ same v least

@@ -94,12 +94,14 @@ module _ (heads counts next : List ℕ) (f v n : ℕ) (hv : v < length heads) (c
           rw (getD-set-other heads v u f 0 other, getD-set-other counts v u n 0 other)
           (follow-set (getD counts u 0) next (getD heads u 0) f (getD heads v 0) h)
 
-  pub at-most-link : (m k : ℕ) → AtMost m counts → m ≤ k → n ≤ k → AtMost k (set counts v n)
-  at-most-link m k h mk nk u = go (eqb u v) refl
-    where
-      go : (b : Bool) → eqb u v ≡ b → getD (set counts v n) u 0 ≤ k
-      go true e = rw (eqb-true u v e, getD-set-same counts v n 0 cv) nk
-      go false e = rw (getD-set-other counts v u n 0 (eqb-false u v e)) (omega (arith, h u))
+-- one count is stored
+pub at-most-set : (counts : List ℕ) (v n : ℕ) → v < length counts → (m k : ℕ) → AtMost m counts → m ≤ k → n ≤ k
+    → AtMost k (set counts v n)
+at-most-set counts v n cv m k h mk nk u = go (eqb u v) refl
+  where
+    go : (b : Bool) → eqb u v ≡ b → getD (set counts v n) u 0 ≤ k
+    go true e = rw (eqb-true u v e, getD-set-same counts v n 0 cv) nk
+    go false e = rw (getD-set-other counts v u n 0 (eqb-false u v e)) (omega (arith, h u))
 
 -- the next position of those to be linked, and the last
 pub linked-next : (rows : List ℕ) (v f to : ℕ) (found : List ℕ) → f < to

@@ -11,7 +11,7 @@ use Rattle.lists.specs.Lists.{All}
 use Rattle.lists.proofs.Alls.{all-imp}
 use Rattle.packing.specs.Rows.{rowsAt}
 use Rattle.crowding.specs.Tails.{Tail, tailsAfter, rowTails}
-use Rattle.crowding_code.specs.Chains.{tailsAt, chain, Outside, Apart, Placed, Ascends, AtMost, Fresh, AllChained, Linked}
+use Rattle.crowding_code.specs.Chains.{tailsAt, chain, Outside, Apart, Ascends, AtMost, Fresh, AllChained, Linked}
 use Rattle.crowding_code.proofs.Follow.{chain-empty}
 use Rattle.crowding_code.proofs.Rows.{in-row, nodesFrom, step}
 use Rattle.crowding_code.proofs.Walks.{chain-elim, chain-tails, chain-placed}

@@ -19,7 +19,7 @@ use Rattle.crowding_code.specs.Chains.{rowEnd, tailAt, tailsAt, linked, 
 abbrev pub nodesFrom : (rows : List ℕ) (f n : ℕ) → List ℕ
 nodesFrom rows f n = take n (drop f rows)
 
-nodes-next : (rows : List ℕ) (f n : ℕ) → f < length rows → nodesFrom rows f (suc n) ≡ getD rows f 0 ∷ nodesFrom rows (suc f) n
+pub nodes-next : (rows : List ℕ) (f n : ℕ) → f < length rows → nodesFrom rows f (suc n) ≡ getD rows f 0 ∷ nodesFrom rows (suc f) n
 nodes-next rows f n h = rw (drop-cons rows f 0 h)
 
 length-nodes : (rows : List ℕ) (f n : ℕ) → f + n ≤ length rows → length (nodesFrom rows f n) ≡ n

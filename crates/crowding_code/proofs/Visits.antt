@@ -2,16 +2,19 @@
 -- needs no visit. Assumes nothing.
 use Prim.Native.Nat.{ℕ, zero, suc, _-_, _/_, _≤_, _<_, min}
 use mathlib.Core.Path.{_≡_, refl, sym, ap, _∙_}
+use mathlib.Core.Bool.{Bool, true, false}
 use mathlib.Core.List.{List, [], _∷_}
 use native.Mathlib.Omega.{arith}
-use lib.ListN.{length, getD, length-map}
-use borrow.Author.Tests.{lt-ltb}
+use lib.ListN.{length, getD}
+use lib.Dec.{leb, ltb}
+use borrow.Author.Tests.{leb-true, leb-false, ltb-true, ltb-false, lt-ltb}
 use Rattle.lists.specs.Lists.{All}
 use Rattle.lists.proofs.Alls.{all-imp}
 use Rattle.crowding.specs.Tails.{Tail, tailsAfter, lowestRow, overNodes, lowestCrowded}
-use Rattle.crowding.proofs.TailsFew.{over-nodes-same, lowest-few}
-use Rattle.crowding_code.specs.Chains.{tailAt, tailsAt, follow, chain, lowestAt, lowestChild, Placed, Chained, AtMost, EmptyTo, AllChained, Grown, KeptTo, KeptBelow}
-use Rattle.crowding_code.proofs.Follow.{length-follow, all-follow}
+use Rattle.crowding.proofs.TailsFew.{lowest-few}
+use Rattle.crowding_code.specs.Chains.{tailsAt, follow, chain, lowestAt, lowestChild, Placed, Chained, NodesBelow, AtMost, AfterAtMost, EmptyBelow, AllChained, Grown, KeptTo, KeptBelow}
+use Rattle.crowding_code.proofs.Follow.{all-follow}
+use Rattle.crowding_code.proofs.Hits.{length-tails}
 use Rattle.crowding_code.proofs.Walks.{follow-kept-to, before-end}
 
 over-next : (f : ℕ → ℕ → ℕ) (v least : ℕ) → 0 < v → overNodes f (v - 1) (f (v - 1) least) ≡ overNodes f v least
@@ -21,13 +24,29 @@ over-next f (suc v) least pos =
     let e : suc v - 1 ≡ v = omega arith in
     rw e
 
+over-from : (f : ℕ → ℕ → ℕ) (m n : ℕ) → m ≤ n → ((v least : ℕ) → m ≤ v → v < n → f v least ≡ least) → (least : ℕ)
+    → overNodes f n least ≡ overNodes f m least
+unfolding overNodes
+over-from f m zero le same least =
+    let e : m ≡ 0 = omega arith in
+    rw e
+over-from f m (suc v) le same least = go (leb m v) refl (λ le. over-from f m v le (λ u low mu uv. same u low mu (omega arith)) (f v least))
+  where
+    go : (b : Bool) → leb m v ≡ b → (m ≤ v → overNodes f v (f v least) ≡ overNodes f m (f v least))
+        → overNodes f v (f v least) ≡ overNodes f m least
+    go true e ih = ih (leb-true m v e) ∙ ap (overNodes f m) (same v least (leb-true m v e) (omega arith))
+    go false e ih =
+        let all : m ≡ suc v = omega (arith, leb-false m v e) in
+        rw all
+
+over-same : (f : ℕ → ℕ → ℕ) (n : ℕ) → ((v least : ℕ) → v < n → f v least ≡ least) → (least : ℕ) → overNodes f n least ≡ least
+unfolding overNodes
+over-same f n same least = over-from f 0 n (omega arith) (λ v low le lt. same v low lt) least
+
 over-congr : (f g : ℕ → ℕ → ℕ) → ((v least : ℕ) → f v least ≡ g v least) → (n least : ℕ) → overNodes f n least ≡ overNodes g n least
 unfolding overNodes
 over-congr f g same zero least = refl
 over-congr f g same (suc v) least = over-congr f g same v (f v least) ∙ ap (overNodes g v) (same v least)
-
-length-tails : (r : ℕ) (rows : List ℕ) (n : ℕ) (next : List ℕ) (p : ℕ) → length (tailsAt r rows (follow n next p)) ≡ n
-length-tails r rows n next p = length-map (follow n next p) (tailAt r rows) ∙ length-follow n next p
 
 -- the loop over a level's nodes
 module _ (r w bound : ℕ) (rows heads counts next₀ : List ℕ) (least₀ : ℕ) where
@@ -41,12 +60,33 @@ module _ (r w bound : ℕ) (rows heads counts next₀ : List ℕ) (least₀ : �
       × (overNodes visited v least ≡ lowestChild w bound r rows heads counts next₀ least₀)
       × KeptBelow rows counts next₀ next
 
-  pub visit-start : ToVisit next₀ 256 least₀
-  visit-start = (λ u lt. refl, refl, λ v empty p le. refl)
+  -- no node from `high` on has a chain
+  pub visit-start : 0 < r → (high : ℕ) → high ≤ 256 → NodesBelow high rows → AllChained r rows heads counts next₀ → ToVisit next₀ high least₀
+  visit-start pos high few below chained = (
+    λ u lt. refl,
+    sym (over-from visited high 256 few
+        (λ u low le lt. lowest-few w bound (tailsAt r rows (chain heads counts next₀ u)) low
+        (omega (arith, none u le, length-tails r rows (getD counts u 0) next₀ (getD heads u 0)))) least₀),
+    λ v empty p le. refl,
+  )
+    where
+      none : (u : ℕ) → high ≤ u → getD counts u 0 ≤ 0
+      none u le = go (ltb 0 (getD counts u 0)) refl
+        where
+          go : (b : Bool) → ltb 0 (getD counts u 0) ≡ b → getD counts u 0 ≤ 0
+          go true e =
+              let first = all-follow (Placed r rows u) (getD counts u 0) next₀ (getD heads u 0) (ltb-true 0 (getD counts u 0) e) (chained u .0) .0 in
+              absurd (omega (arith, below (getD heads u 0) (omega (arith, first .0, before-end r (getD heads u 0) pos)), first .1))
+          go false e = ltb-false 0 (getD counts u 0) e
 
-  pub visit-end : (next : List ℕ) (v least : ℕ) → v ≡ 0 → ToVisit next v least → least ≡ lowestChild w bound r rows heads counts next₀ least₀
-  unfolding overNodes
-  visit-end next v least e h = sym (rw e) ∙ h .1
+  pub visit-end : (next : List ℕ) (v least : ℕ) → EmptyBelow v counts → ToVisit next v least
+      → least ≡ lowestChild w bound r rows heads counts next₀ least₀
+  visit-end next v least empty h =
+      sym (over-same visited v
+      (λ u low lt. lowest-few w bound (tailsAt r rows (chain heads counts next₀ u)) low
+      (omega (arith, empty u lt, length-tails r rows (getD counts u 0) next₀ (getD heads u 0))))
+      least)
+      ∙ h .1
 
   pub visit-skip : (next : List ℕ) (v least : ℕ) → 0 < v → getD counts (v - 1) 0 ≤ bound → ToVisit next v least → ToVisit next (v - 1) least
   visit-skip next v least pos few h = (
@@ -110,6 +150,19 @@ module _ (r w bound : ℕ) (rows next : List ℕ) (head count least : ℕ) where
       all-imp (Placed r rows v) (λ p. p < length next) (λ p placed. omega (arith, placed .0, before-end r p pos))
       (follow count next head) (h .0)
 
+  pub within-rows : 0 < r → 0 < count → (v : ℕ) → Chained r rows v (follow count next head) → head < length rows
+  within-rows pos some v h =
+      omega (arith, all-follow (Placed r rows v) count next head some (h .0) .0 .0, before-end r head pos)
+
+-- after no node there are more tails than the bound
+pub after-few : (n w bound m : ℕ) (tails : List Tail) (least : ℕ) → n ≡ suc w → AfterAtMost w m tails → m ≤ bound
+    → least ≡ lowestCrowded n bound tails least
+unfolding lowestCrowded
+after-few n w bound m tails least e few le =
+    rw e
+    (sym (over-same (λ v least. lowestCrowded w bound (tailsAfter w v tails []) least) 256
+    (λ v least lt. lowest-few w bound (tailsAfter w v tails []) least (omega (arith, few v))) least))
+
 -- the level below: its chains hold the tails
 module _ (n w bound r : ℕ) (rows heads counts next : List ℕ) (tails : List Tail) (least : ℕ) (e : n ≡ suc w)
     (grown : Grown w tails r rows heads counts next) where
@@ -123,7 +176,5 @@ module _ (n w bound r : ℕ) (rows heads counts next : List ℕ) (tails : List T
 
   pub grown-few : (most : ℕ) → AtMost most counts → most ≤ bound → least ≡ lowestCrowded n bound tails least
   grown-few most few le =
-      sym (over-nodes-same (λ v least. lowestCrowded w bound (tailsAt r rows (chain heads counts next v)) least)
-      (λ v least. lowest-few w bound (tailsAt r rows (chain heads counts next v)) least
-      (omega (arith, few v, length-tails r rows (getD counts v 0) next (getD heads v 0)))) 256 least)
-      ∙ grown-lowest
+      after-few n w bound most tails least e
+      (λ v. omega (arith, few v, length-tails r rows (getD counts v 0) next (getD heads v 0), ap length (grown v))) le

@@ -8,7 +8,7 @@ use lib.ListN.{length, getD}
 use Rattle.lists.specs.Lists.{All}
 use Rattle.lists.proofs.Alls.{all-imp, all-append, all-append-left, all-append-right}
 use Rattle.crowding.specs.Tails.{Tail, tailsAfter}
-use Rattle.crowding_code.specs.Chains.{rowEnd, tailsAt, follow, chain, Outside, Apart, Placed, Ascends, AtMost, EmptyTo, Fresh, AllChained, KeptOutside, KeptTo, Linked, Grown}
+use Rattle.crowding_code.specs.Chains.{rowEnd, tailsAt, follow, chain, Outside, Apart, Placed, Ascends, AtMost, EmptyTo, Fresh, AllChained, KeptOutside, KeptTo, Linked}
 use Rattle.crowding_code.proofs.Follow.{length-follow, follow-next, follow-kept, chain-empty}
 use Rattle.crowding_code.proofs.Rows.{in-row, row-end, linked-elim, tails-linked, nodesFrom, step}
 

@@ -7,7 +7,7 @@ use mathlib.Core.Bool.{cond}
 use mathlib.Core.List.{List, [], _∷_, map}
 use lib.ListN.{length, getD, take, drop}
 use lib.Dec.{eqb}
-use Rattle.lists.specs.Lists.{All}
+use Rattle.lists.specs.Lists.{All, tally}
 use Rattle.crowding.specs.Tails.{Tail, tailsAfter, overNodes, lowestCrowded}
 
 -- the end of the row that position p is in
@@ -35,6 +35,11 @@ unfoldable pub linked : (rows : List ℕ) (v f n : ℕ) (found : List ℕ) → L
 linked rows v f zero found = found
 linked rows v f (suc n) found = linked rows v (suc f) n (cond (eqb v (getD rows f 0)) (f ∷ found) found)
 
+-- how many of the n positions from f on have node v
+unfoldable pub hits : (rows : List ℕ) (v f n : ℕ) → ℕ
+hits rows v f zero = 0
+hits rows v f (suc n) = tally (eqb v (getD rows f 0)) (hits rows v (suc f) n)
+
 -- the least of `least` and the positions' row numbers
 unfoldable pub lowestAt : (r least : ℕ) → List ℕ → ℕ
 lowestAt r least [] = least
@@ -61,12 +66,19 @@ Chained r rows v chain = All (Placed r rows v) chain × Apart r chain
 abbrev pub Ascends : (r : ℕ) → List ℕ → Type 0
 Ascends r rows = (p q : ℕ) → p < q → q < rowEnd r p → rowEnd r p ≤ length rows → getD rows p 0 < getD rows q 0
 
--- every chain is at most m long, and those of the nodes up to v are empty
+-- every node is below n
+abbrev pub NodesBelow : (n : ℕ) (rows : List ℕ) → Type 0
+NodesBelow n rows = (p : ℕ) → p < length rows → getD rows p 0 < n
+
+-- every chain is at most m long; those of the nodes up to v, or below it, are empty
 abbrev pub AtMost : (m : ℕ) (counts : List ℕ) → Type 0
 AtMost m counts = (v : ℕ) → getD counts v 0 ≤ m
 
 abbrev pub EmptyTo : (v : ℕ) (counts : List ℕ) → Type 0
 EmptyTo v counts = (u : ℕ) → u ≤ v → getD counts u 0 ≡ 0
+
+abbrev pub EmptyBelow : (v : ℕ) (counts : List ℕ) → Type 0
+EmptyBelow v counts = (u : ℕ) → u < v → getD counts u 0 ≡ 0
 
 -- none of the positions from `from` to `to` is in a chain
 abbrev pub Fresh : (from to : ℕ) (heads counts next : List ℕ) → Type 0
@@ -100,3 +112,11 @@ lowestChild w bound r rows heads counts next least =
 -- what is kept where only nodes that have a chain are visited
 abbrev pub KeptBelow : (rows counts next last : List ℕ) → Type 0
 KeptBelow rows counts next last = (v : ℕ) → EmptyTo v counts → KeptTo v rows next last
+
+-- each node's count is raised by the positions that have the node
+abbrev pub Counted : (rows : List ℕ) (from n : ℕ) (counts last : List ℕ) → Type 0
+Counted rows from n counts last = (v : ℕ) → getD last v 0 ≡ getD counts v 0 + hits rows v from n
+
+-- after each node there are at most m tails
+abbrev pub AfterAtMost : (w m : ℕ) (tails : List Tail) → Type 0
+AfterAtMost w m tails = (v : ℕ) → length (tailsAfter w v tails []) ≤ m

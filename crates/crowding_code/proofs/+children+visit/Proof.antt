@@ -2,9 +2,10 @@
 -- chain that it comes from. Assumes nothing.
 use mathlib.Core.Path.{_≡_, refl, _∙_}
 use lib.ListN.{length, getD}
-use Rattle.crowding_code.specs.Chains.{tailsAt, follow}
+use Rattle.lists.proofs.Alls.{all-imp}
+use Rattle.crowding_code.specs.Chains.{rowEnd, tailsAt, follow, Placed}
 use Rattle.crowding_code.proofs.Follow.{at-most-zero}
-use Rattle.crowding_code.proofs.Visits.{ToVisit, visit-start, visit-end, visit-skip, visit-chained, visit-next, visit-last, within-next, grown-lowest, grown-few}
+use Rattle.crowding_code.proofs.Visits.{ToVisit, visit-start, visit-end, visit-skip, visit-chained, visit-next, visit-last, within-next, within-rows, after-few, grown-lowest, grown-few}
 use native.Mathlib.Omega.{arith}
 use borrow.Author.Needs.{needs}
 use Prim.Native.Nat.{ℕ, _+_, _*_, _-_, _≤_, _<_}
@@ -16,7 +17,8 @@ use Rattle.crowding_code.proofs.+children+visit.Lts-children as childre
 use Rattle.crowding_code.proofs.visit.Reads as visit
 use Rattle.crowding_code.proofs.visit.Kinds as visit-kinds
 use Rattle.crowding_code.proofs.+children+visit.Lts-visit as visit-lts
-use Rattle.crowding_code.proofs.link_tails.Reads as link-tails-reads
+use Rattle.crowding_code.proofs.counting.most_after.Reads as most-after-reads
+use Rattle.crowding_code.proofs.linking.link_tails.Reads as link-tails-reads
 use Rattle.crowding_code.proofs.lowest.Reads as lowest-reads
 use Rattle.crowding_code.proofs.+children+visit.{statement}
 use Rattle.crowding_code.proofs.+children+visit.Tie.{close}
@@ -42,20 +44,20 @@ visit-below t = and 2 visit-kinds.ps (falls 2 visit-kinds.ps _<_ μ-visit t) vis
 
 abbrev callees : ℕ → visit-lts.Claims
 callees t =
-    (lowest-reads.Asked, lowest-reads.Learnt, link-tails-reads.Asked, link-tails-reads.Learnt, children-below t, children.Post)
+    (lowest-reads.Asked, lowest-reads.Learnt, most-after-reads.Asked, most-after-reads.Learnt, link-tails-reads.Asked, link-tails-reads.Learnt, children-below t, children.Post)
 
 abbrev children-Inv-loop : children-lts.InvT-loop
-children-Inv-loop rows r w bound heads counts next₀ least v₀ low₀ next v low =
-    (v ≤ 256) × (length next ≡ length next₀)
-    × ToVisit r w bound rows heads counts next₀ least next v low
+children-Inv-loop rows r w bound high heads counts low next₀ least v₀ lowest₀ next v lowest =
+    (v ≤ 256) × (low ≤ v) × (length next ≡ length next₀) × ToVisit r w bound rows heads counts next₀ least next v lowest
 
 abbrev children-μ-loop : children-lts.MeasureT-loop
-children-μ-loop rows r w bound heads counts next₀ least v₀ low₀ next v low = v
+children-μ-loop rows r w bound high heads counts low next₀ least v₀ lowest₀ next v lowest = v
 
 children-loop-holds : (t : ℕ) → children-lts.Need-loop-holds (visit-below t, visit.Post) (children-at t) children.Post children-Inv-loop children-μ-loop
 children-loop-holds t c =
     let g = c .before .before .before .before .args in
-    (omega arith, refl, visit-start (g .r) (g .w) (g .bound) (g .rows .now) (g .heads .now) (g .counts .now) (g .next .now) (g .least))
+    let pre = c .before .before .before .before .pre .1 in
+    (pre .1 .1 .0 .0, pre .1 .1 .0 .2, refl, visit-start (g .r) (g .w) (g .bound) (g .rows .now) (g .heads .now) (g .counts .now) (g .next .now) (g .least) (omega (arith, pre .0)) (g .high) (pre .1 .1 .0 .0) (pre .1 .1 .0 .1) (pre .1 .1 .1 .1))
 
 children-sub-v : (t : ℕ) → children-lts.Need-sub-v (visit-below t, visit.Post) (children-at t) children.Post children-Inv-loop children-μ-loop
 children-sub-v t c = search needs
@@ -77,8 +79,8 @@ children-loop-again : (t : ℕ) → children-lts.Need-loop-again (visit-below t,
 children-loop-again t c =
     let l = c .before .before .before .loop in
     let g = c .before .before .before .before .before .before .before .before .args in
-    let pre = c .before .before .before .before .before .before .before .before .pre .1 in
-    (omega arith, l .inv .1, visit-skip (g .r) (g .w) (g .bound) (g .rows .now) (g .heads .now) (g .counts .now) (g .next .now) (g .least) (l .next) (l .v) (l .low) (c .before .before .loop-test .taken) (c .if1 .taken) (l .inv .2))
+    let pos : 0 < l .v = omega (arith, c .before .before .loop-test .taken) in
+    (omega arith, omega arith, l .inv .2, visit-skip (g .r) (g .w) (g .bound) (g .rows .now) (g .heads .now) (g .counts .now) (g .next .now) (g .least) (l .next) (l .v) (l .lowest) pos (c .if1 .taken) (l .inv .3))
 
 children-mul-visit : (t : ℕ) → children-lts.Need-mul-visit (visit-below t, visit.Post) (children-at t) children.Post children-Inv-loop children-μ-loop
 children-mul-visit t c = search needs
@@ -91,6 +93,7 @@ children-visit-requires t c κs =
     let l = c .before .before .before .before .before .loop in
     let g = c .before .before .before .before .before .before .before .before .before .before .args in
     let pre = c .before .before .before .before .before .before .before .before .before .before .pre .1 in
+    let pos : 0 < l .v = omega (arith, c .before .before .before .before .loop-test .taken) in
     let some : 0 < getD (g .counts .now) (l .v - 1) 0 = omega (arith, c .before .before .if1 .left) in (
       omega (arith, c .before .before .before .before .before .before .before .before .before .before .pre .0),
       (
@@ -98,8 +101,8 @@ children-visit-requires t c κs =
         (
           (omega (arith, c .before .before .if1 .left), pre .1 .0 .2 (l .v - 1)),
           (
-            pre .1 .1 .0,
-            visit-chained (g .r) (g .w) (g .bound) (g .rows .now) (g .heads .now) (g .counts .now) (g .next .now) (g .least) (pre .1 .1 .1) (l .next) (l .v) (l .low) (c .before .before .before .before .loop-test .taken) some (l .inv .2),
+            (pre .1 .1 .0 .0, pre .1 .1 .0 .1),
+            (pre .1 .1 .1 .0, visit-chained (g .r) (g .w) (g .bound) (g .rows .now) (g .heads .now) (g .counts .now) (g .next .now) (g .least) (pre .1 .1 .1 .1) (l .next) (l .v) (l .lowest) pos some (l .inv .3)),
           ),
         ),
       ),
@@ -113,32 +116,34 @@ children-loop-again-2 t c =
     let l = c .before .before .before .before .before .before .before .before .loop in
     let g = c .before .before .before .before .before .before .before .before .before .before .before .before .before .args in
     let pre = c .before .before .before .before .before .before .before .before .before .before .before .before .before .pre .1 in
+    let pos : 0 < l .v = omega (arith, c .before .before .before .before .before .before .before .loop-test .taken) in
     let some : 0 < getD (g .counts .now) (l .v - 1) 0 = omega (arith, c .before .before .before .before .before .if1 .left) in
     let called = c .before .before .visit in
-    let last = called .last .1 .1 .1 .1 .1 .1 .0 in (
+    let last = called .last .1 .1 .1 .1 .1 .1 .1 .0 in (
       omega arith,
-      called .kept .1 .1 .1 .1 .1 .1 .0 ∙ l .inv .1,
-      visit-next (g .r) (g .w) (g .bound) (g .rows .now) (g .heads .now) (g .counts .now) (g .next .now) (g .least) (pre .1 .1 .1) (l .next) (l .v) (l .low) (c .before .before .before .before .before .before .before .loop-test .taken) some (l .inv .2) last (called .result)
+      omega arith,
+      called .kept .1 .1 .1 .1 .1 .1 .1 .0 ∙ l .inv .2,
+      visit-next (g .r) (g .w) (g .bound) (g .rows .now) (g .heads .now) (g .counts .now) (g .next .now) (g .least) (pre .1 .1 .1 .1) (l .next) (l .v) (l .lowest) pos some (l .inv .3) last (called .result)
           (called .ensures .0) (called .ensures .1),
     )
 
 children-same-length : (t : ℕ) → children-lts.Need-same-length (visit-below t, visit.Post) (children-at t) children.Post children-Inv-loop children-μ-loop
 children-same-length t c =
-    c .before .loop .inv .1
+    c .before .loop .inv .2
 
 children-returns : (t : ℕ) → children-lts.Need-returns (visit-below t, visit.Post) (children-at t) children.Post children-Inv-loop children-μ-loop
 children-returns t c =
     let l = c .before .loop in
     let g = c .before .before .before .before .before .before .args in
     let pre = c .before .before .before .before .before .before .pre .1 in
-    (visit-end (g .r) (g .w) (g .bound) (g .rows .now) (g .heads .now) (g .counts .now) (g .next .now) (g .least) (l .next) (l .v) (l .low) (omega arith) (l .inv .2), l .inv .2 .2)
+    (visit-end (g .r) (g .w) (g .bound) (g .rows .now) (g .heads .now) (g .counts .now) (g .next .now) (g .least) (l .next) (l .v) (l .lowest) (λ u lt. pre .1 .1 .0 .3 u (omega arith)) (l .inv .3), l .inv .3 .2)
 
 visit-lowest-requires : (t : ℕ) → visit-lts.Need-lowest-requires (callees t) (visit-at t) visit.Post
 visit-lowest-requires t c κs =
     let g = c .before .before .before .before .args in
     let pre = c .before .before .before .before .pre .1 in
     let pos : 0 < g .r = omega (arith, pre .0) in
-    (pos, within-next (g .r) (g .w) (g .bound) (g .rows .now) (g .next .now) (g .head) (g .count) (g .least) pos (pre .0 .2) (getD (g .rows .now) (g .head) 0) (pre .1 .1 .1))
+    (pos, within-next (g .r) (g .w) (g .bound) (g .rows .now) (g .next .now) (g .head) (g .count) (g .least) pos (pre .0 .2) (getD (g .rows .now) (g .head) 0) (pre .1 .1 .1 .1))
 
 visit-same-length : (t : ℕ) → visit-lts.Need-same-length (callees t) (visit-at t) visit.Post
 visit-same-length t c = search needs
@@ -148,6 +153,31 @@ visit-returns t c =
     let g = c .before .before .before .before .before .args in
     let pre = c .before .before .before .before .before .pre .1 in
     (c .lowest .ensures ∙ visit-last (g .r) (g .w) (g .bound) (g .rows .now) (g .next .now) (g .head) (g .count) (g .least) (c .before .before .if1 .taken) (pre .1 .0 .0), λ p le. refl)
+
+visit-most-after-requires : (t : ℕ) → visit-lts.Need-most-after-requires (callees t) (visit-at t) visit.Post
+visit-most-after-requires t c κs =
+    let g = c .before .before .before .before .args in
+    let pre = c .before .before .before .before .pre .1 in
+    let pos : 0 < g .r = omega (arith, pre .0) in (
+      (pos, pre .0 .1, pre .0 .2, pre .1 .0 .1),
+      all-imp (Placed (g .r) (g .rows .now) (getD (g .rows .now) (g .head) 0)) (λ p. rowEnd (g .r) p ≤ length (g .rows .now)) (λ p placed. placed .0)
+          (follow (g .count) (g .next .now) (g .head)) (pre .1 .1 .1 .1 .0),
+    )
+
+visit-cast-if2 : (t : ℕ) → visit-lts.Need-cast-if2 (callees t) (visit-at t) visit.Post
+visit-cast-if2 t c = search needs
+
+visit-same-length-2 : (t : ℕ) → visit-lts.Need-same-length-2 (callees t) (visit-at t) visit.Post
+visit-same-length-2 t c = search needs
+
+visit-returns-2 : (t : ℕ) → visit-lts.Need-returns-2 (callees t) (visit-at t) visit.Post
+visit-returns-2 t c =
+    let g = c .before .before .before .before .before .before .args in
+    let pre = c .before .before .before .before .before .before .pre .1 in (
+      after-few (g .w) (g .w - 1) (g .bound) (c .before .most-after .result) (tailsAt (g .r) (g .rows .now) (follow (g .count) (g .next .now) (g .head))) (g .least)
+          (omega (arith, c .before .before .before .if1 .left)) (c .before .most-after .ensures) (c .if2 .taken),
+      λ p le. refl,
+    )
 
 visit-sub-link-tails : (t : ℕ) → visit-lts.Need-sub-link-tails (callees t) (visit-at t) visit.Post
 visit-sub-link-tails t c = search needs
@@ -160,30 +190,42 @@ visit-slice-aggregate-link-tails-2 t c = search needs
 
 visit-link-tails-requires : (t : ℕ) → visit-lts.Need-link-tails-requires (callees t) (visit-at t) visit.Post
 visit-link-tails-requires t c κs =
-    let g = c .before .before .before .before .before .before .args in
-    let pre = c .before .before .before .before .before .before .pre .1 in (
+    let pre = c .before .before .before .before .before .before .before .before .before .pre .1 in (
       (omega (arith, pre .0), pre .0 .1, pre .0 .2, pre .0 .3, pre .1 .0 .1),
-      ((refl, refl, at-most-zero 256), (pre .1 .1 .0, pre .1 .1 .1)),
+      ((refl, refl, at-most-zero 256), (pre .1 .1 .1 .0, pre .1 .1 .1 .1)),
     )
 
-visit-cast-if2 : (t : ℕ) → visit-lts.Need-cast-if2 (callees t) (visit-at t) visit.Post
-visit-cast-if2 t c = search needs
+visit-cast-if3 : (t : ℕ) → visit-lts.Need-cast-if3 (callees t) (visit-at t) visit.Post
+visit-cast-if3 t c = search needs
 
-visit-same-length-2 : (t : ℕ) → visit-lts.Need-same-length-2 (callees t) (visit-at t) visit.Post
-visit-same-length-2 t c = search needs
+visit-same-length-3 : (t : ℕ) → visit-lts.Need-same-length-3 (callees t) (visit-at t) visit.Post
+visit-same-length-3 t c = search needs
 
-visit-returns-2 : (t : ℕ) → visit-lts.Need-returns-2 (callees t) (visit-at t) visit.Post
-visit-returns-2 t c =
-    let g = c .before .before .before .before .before .before .before .before .before .before .before .before .args in
-    let pre = c .before .before .before .before .before .before .before .before .before .before .before .before .pre .1 in
+visit-returns-3 : (t : ℕ) → visit-lts.Need-returns-3 (callees t) (visit-at t) visit.Post
+visit-returns-3 t c =
+    let g = c .before .before .before .before .before .before .before .before .before .before .before .before .before .before .before .args in
     let linked = c .before .before .before .before .before .link-tails in
     let heads = linked .last .1 .1 .1 .1 .1 .0 in
     let counts = linked .last .1 .1 .1 .1 .1 .1 .0 in
     let next = linked .last .1 .1 .1 .1 .1 .1 .1 .0 in (
-      grown-few (g .w) (g .w - 1) (g .bound) (g .r) (g .rows .now) heads counts next (tailsAt (g .r) (g .rows .now) (follow (g .count) (g .next .now) (g .head))) (g .least) (omega (arith, c .before .before .before .before .before .before .before .before .before .if1 .left)) (linked .ensures .0) (linked .result)
-          (linked .ensures .1 .1 .0 .0) (c .if2 .taken),
+      grown-few (g .w) (g .w - 1) (g .bound) (g .r) (g .rows .now) heads counts next (tailsAt (g .r) (g .rows .now) (follow (g .count) (g .next .now) (g .head))) (g .least) (omega (arith, c .before .before .before .before .before .before .before .before .before .before .before .before .if1 .left)) (linked .ensures .0) (linked .result)
+          (linked .ensures .1 .1 .0 .0) (c .if3 .taken),
       linked .ensures .1 .1 .1,
     )
+
+visit-shared-slice-read-low : (t : ℕ) → visit-lts.Need-shared-slice-read-low (callees t) (visit-at t) visit.Post
+visit-shared-slice-read-low t c =
+    let g = c .before .before .before .before .before .before .before .before .before .before .before .before .before .before .before .before .args in
+    let pre = c .before .before .before .before .before .before .before .before .before .before .before .before .before .before .before .before .pre .1 in
+    within-rows (g .r) (g .w) (g .bound) (g .rows .now) (g .next .now) (g .head) (g .count) (g .least) (omega (arith, pre .0)) (omega (arith, pre .1 .0)) (getD (g .rows .now) (g .head) 0) (pre .1 .1 .1 .1)
+
+visit-cast-low : (t : ℕ) → visit-lts.Need-cast-low (callees t) (visit-at t) visit.Post
+visit-cast-low t c =
+    omega (arith, c .shared-slice-known2 .given (c .before .before .before .before .before .before .before .before .before .before .before .before .before .before .before .before .args .head))
+
+visit-add-low : (t : ℕ) → visit-lts.Need-add-low (callees t) (visit-at t) visit.Post
+visit-add-low t c =
+    omega (arith, c .shared-slice-known2 .given (c .before .before .before .before .before .before .before .before .before .before .before .before .before .before .before .before .args .head))
 
 visit-sub-children : (t : ℕ) → visit-lts.Need-sub-children (callees t) (visit-at t) visit.Post
 visit-sub-children t c = search needs
@@ -196,36 +238,37 @@ visit-slice-aggregate-children-2 t c = search needs
 
 visit-children-requires : (t : ℕ) → visit-lts.Need-children-requires (callees t) (visit-at t) visit.Post
 visit-children-requires t c κs =
-    let g = c .before .before .before .before .before .before .before .before .before .before .before .before .before .before .before .args in
-    let pre = c .before .before .before .before .before .before .before .before .before .before .before .before .before .before .before .pre .1 in
-    let linked = c .before .before .before .before .before .before .before .before .link-tails in
-    let heads = linked .last .1 .1 .1 .1 .1 .0 in
-    let counts = linked .last .1 .1 .1 .1 .1 .1 .0 in
-    let next = linked .last .1 .1 .1 .1 .1 .1 .1 .0 in (
-      omega (arith, c .before .before .before .before .before .before .before .before .before .before .before .before .before .before .before .pre .0, c .before .before .before .before .before .before .before .before .before .before .before .before .if1 .left),
+    let g = c .before .before .before .before .before .before .before .before .before .before .before .before .before .before .before .before .before .before .before .args in
+    let pre = c .before .before .before .before .before .before .before .before .before .before .before .before .before .before .before .before .before .before .before .pre .1 in
+    let linked = c .before .before .before .before .before .before .before .before .before .link-tails in
+    let next = linked .last .1 .1 .1 .1 .1 .1 .1 .0 in
+    let inside = within-rows (g .r) (g .w) (g .bound) (g .rows .now) (g .next .now) (g .head) (g .count) (g .least) (omega (arith, pre .0)) (omega (arith, pre .1 .0)) (getD (g .rows .now) (g .head) 0) (pre .1 .1 .1 .1) in (
+      omega (arith, c .before .before .before .before .before .before .before .before .before .before .before .before .before .before .before .before .before .before .before .pre .0, c .before .before .before .before .before .before .before .before .before .before .before .before .before .before .before .before .if1 .left),
       (
         (omega (arith, pre .0), pre .0 .1, omega (arith, pre .0, linked .kept .1 .1 .1 .1 .1 .1 .1 .0), pre .0 .3),
         (
           (linked .kept .1 .1 .1 .1 .1 .0, linked .kept .1 .1 .1 .1 .1 .1 .0, λ v. omega (arith, linked .ensures .1 .1 .0 .1 v, pre .1 .0 .1)),
-          (pre .1 .1 .0, linked .ensures .1 .0),
+          (
+            (pre .1 .1 .0 .0, pre .1 .1 .0 .1, omega (arith, pre .1 .1 .0 .1 (g .head) inside), λ u lt. linked .ensures .1 .1 .0 .2 u (omega (arith, lt))),
+            (pre .1 .1 .1 .0, linked .ensures .1 .0),
+          ),
         ),
       ),
     )
 
-visit-same-length-3 : (t : ℕ) → visit-lts.Need-same-length-3 (callees t) (visit-at t) visit.Post
-visit-same-length-3 t c = search needs
+visit-same-length-4 : (t : ℕ) → visit-lts.Need-same-length-4 (callees t) (visit-at t) visit.Post
+visit-same-length-4 t c = search needs
 
-visit-returns-3 : (t : ℕ) → visit-lts.Need-returns-3 (callees t) (visit-at t) visit.Post
-visit-returns-3 t c =
-    let g = c .before .before .before .before .before .before .before .before .before .before .before .before .before .before .before .before .before .before .args in
-    let pre = c .before .before .before .before .before .before .before .before .before .before .before .before .before .before .before .before .before .before .pre .1 in
-    let linked = c .before .before .before .before .before .before .before .before .before .before .before .link-tails in
+visit-returns-4 : (t : ℕ) → visit-lts.Need-returns-4 (callees t) (visit-at t) visit.Post
+visit-returns-4 t c =
+    let g = c .before .before .before .before .before .before .before .before .before .before .before .before .before .before .before .before .before .before .before .before .before .before .args in
+    let linked = c .before .before .before .before .before .before .before .before .before .before .before .before .link-tails in
     let heads = linked .last .1 .1 .1 .1 .1 .0 in
     let counts = linked .last .1 .1 .1 .1 .1 .1 .0 in
     let next = linked .last .1 .1 .1 .1 .1 .1 .1 .0 in
     let called = c .before .before .children in (
       called .ensures .0
-          ∙ grown-lowest (g .w) (g .w - 1) (g .bound) (g .r) (g .rows .now) heads counts next (tailsAt (g .r) (g .rows .now) (follow (g .count) (g .next .now) (g .head))) (g .least) (omega (arith, c .before .before .before .before .before .before .before .before .before .before .before .before .before .before .before .if1 .left)) (linked .ensures .0),
+          ∙ grown-lowest (g .w) (g .w - 1) (g .bound) (g .r) (g .rows .now) heads counts next (tailsAt (g .r) (g .rows .now) (follow (g .count) (g .next .now) (g .head))) (g .least) (omega (arith, c .before .before .before .before .before .before .before .before .before .before .before .before .before .before .before .before .before .before .before .if1 .left)) (linked .ensures .0),
       λ p le. called .ensures .1 (getD (g .rows .now) (g .head) 0) (linked .ensures .1 .1 .0 .2) p le ∙ linked .ensures .1 .1 .1 p le,
     )
 
@@ -258,16 +301,23 @@ pub +children+visit-spec : {M : Type 1} → statement M
     (visit-lowest-requires t)
     (visit-same-length t)
     (visit-returns t)
+    (visit-most-after-requires t)
+    (visit-cast-if2 t)
+    (visit-same-length-2 t)
+    (visit-returns-2 t)
     (visit-sub-link-tails t)
     (visit-slice-aggregate-link-tails t)
     (visit-slice-aggregate-link-tails-2 t)
     (visit-link-tails-requires t)
-    (visit-cast-if2 t)
-    (visit-same-length-2 t)
-    (visit-returns-2 t)
+    (visit-cast-if3 t)
+    (visit-same-length-3 t)
+    (visit-returns-3 t)
+    (visit-shared-slice-read-low t)
+    (visit-cast-low t)
+    (visit-add-low t)
     (visit-sub-children t)
     (visit-slice-aggregate-children t)
     (visit-slice-aggregate-children-2 t)
     (visit-children-requires t)
-    (visit-same-length-3 t)
-    (visit-returns-3 t)
+    (visit-same-length-4 t)
+    (visit-returns-4 t)

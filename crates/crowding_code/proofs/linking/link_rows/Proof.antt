@@ -1,4 +1,4 @@
--- `crowding_code::link_rows` meets its contract: a walk through the rows. Assumes nothing.
+-- `linking::link_rows` meets its contract: a walk through the rows. Assumes nothing.
 use Prim.Native.Nat.{ℕ, _-_, _*_, _≤_, _<_}
 use mathlib.Core.Path.{_≡_, refl, sym, _∙_}
 use mathlib.Core.List.{List, []}
@@ -11,8 +11,8 @@ use Rattle.crowding_code.proofs.Walks.{chain-longer}
 use Rattle.crowding_code.proofs.Roots.{Root, root-start, root-end, root-fresh, root-next, row-whole, link-row}
 use native.Mathlib.Omega.{arith}
 use borrow.Author.Needs.{needs}
-use Rattle.crowding_code.proofs.link_rows.Statement.{statement}
-use Rattle.crowding_code.proofs.link_rows.Tie as tie
+use Rattle.crowding_code.proofs.linking.link_rows.Statement.{statement}
+use Rattle.crowding_code.proofs.linking.link_rows.Tie as tie
 
 abbrev Inv-loop : tie.InvT-loop
 Inv-loop rows c r w heads₀ counts₀ next₀ i₀ start₀ most₀ heads counts next i start most =
@@ -131,7 +131,7 @@ returns c =
     let pre = c .before .before .before .before .before .before .pre in
     let goal : ℕ → List Tail = λ u. tailsAfter (g .w) u (rowTails 0 (rowsAt (g .r) (g .c) (g .rows .now))) [] in (
       root-end (g .r) (g .w) (g .c) (g .rows .now) goal (l .heads) (l .counts) (l .next) (l .i) (l .start) (omega arith) (l .inv .7),
-      (l .inv .7 .0, (l .inv .6, λ u. omega (arith, l .inv .5 u))),
+      (l .inv .7 .0, λ u. omega (arith, l .inv .5 u)),
     )
 
 pub link-rows-spec : {M : Type 1} → statement M

@@ -1,14 +1,14 @@
--- `crowding_code::link` meets its contract: the positions that are left, linked to the present chains, make the chains of
+-- `linking::link` meets its contract: the positions that are left, linked to the present chains, make the chains of
 -- all. Assumes nothing.
 use Prim.Native.Nat.{ℕ, _+_, _-_, _≤_, _<_}
 use mathlib.Core.Path.{_≡_, refl, sym, _∙_}
 use lib.ListN.{length, getD, length-set}
 use Rattle.crowding_code.specs.Chains.{chain, linked, AtMost, Fresh, KeptOutside}
-use Rattle.crowding_code.proofs.Follow.{linked-all, turn-linked, turn-fresh, turn-kept, at-most-link}
+use Rattle.crowding_code.proofs.Follow.{linked-all, turn-linked, turn-fresh, turn-kept, at-most-set}
 use native.Mathlib.Omega.{arith}
 use borrow.Author.Needs.{needs}
-use Rattle.crowding_code.proofs.link.Statement.{statement}
-use Rattle.crowding_code.proofs.link.Tie as tie
+use Rattle.crowding_code.proofs.linking.link.Statement.{statement}
+use Rattle.crowding_code.proofs.linking.link.Tie as tie
 
 abbrev Inv-loop : tie.InvT-loop
 Inv-loop rows from to heads₀ counts₀ next₀ most f₀ longest₀ heads counts next f longest =
@@ -97,15 +97,14 @@ loop-again c =
     let v = getD (g .rows .now) (l .f) 0 in
     let n = getD (l .counts) v 0 + 1 in
     let i = l .inv in
-    let hv : v < length (l .heads) = omega (arith, byte) in
     let cv : v < length (l .counts) = omega (arith, byte) in
     let lt : l .f < length (l .next) = omega (arith, pre .0) in (
       omega arith,
       length-set (l .heads) v (l .f) ∙ i .1,
       length-set (l .counts) v n ∙ i .2,
       length-set (l .next) (l .f) (getD (l .heads) v 0) ∙ i .3,
-      at-most-link (l .heads) (l .counts) (l .next) (l .f) v n hv cv lt refl _ _ (i .4) (omega arith) (omega (arith, i .4 v)),
-      at-most-link (l .heads) (l .counts) (l .next) (l .f) v n hv cv lt refl _ _ (i .5) (c .larger .ensures .0) (c .larger .ensures .1),
+      at-most-set (l .counts) v n cv _ _ (i .4) (omega arith) (omega (arith, i .4 v)),
+      at-most-set (l .counts) v n cv _ _ (i .5) (c .larger .ensures .0) (c .larger .ensures .1),
       turn-fresh (g .rows .now) (l .heads) (l .counts) (l .next) (l .f) (g .to) n (i .1) (i .2) lt more (omega (arith, byte)) refl (i .6),
       λ u. turn-linked (g .rows .now) (l .heads) (l .counts) (l .next) (l .f) (g .to) n (i .1) (i .2) lt more (omega (arith, byte)) refl (i .6) u ∙ i .7 u,
       turn-kept (g .next .now) (l .next) (g .from) (l .f) (g .to) (getD (l .heads) v 0) (i .0) more (i .8),

@@ -1,4 +1,4 @@
--- `crowding_code::link_tails` meets its contract: a walk along the chain. Assumes nothing.
+-- `linking::link_tails` meets its contract: a walk along the chain. Assumes nothing.
 use Prim.Native.Nat.{ℕ, _+_, _-_, _/_, _≤_, _<_}
 use mathlib.Core.Path.{_≡_, refl, sym, _∙_}
 use mathlib.Core.List.{List, []}
@@ -9,8 +9,8 @@ use Rattle.crowding_code.specs.Chains.{tailsAt, follow, AtMost, KeptTo}
 use Rattle.crowding_code.proofs.Walks.{Walk, walk-start, walk-first, walk-end, walk-grown, walk-chained, walk-fresh, walk-kept, walk-on, chain-longer, row-start, before-end}
 use native.Mathlib.Omega.{arith}
 use borrow.Author.Needs.{needs}
-use Rattle.crowding_code.proofs.link_tails.Statement.{statement}
-use Rattle.crowding_code.proofs.link_tails.Tie as tie
+use Rattle.crowding_code.proofs.linking.link_tails.Statement.{statement}
+use Rattle.crowding_code.proofs.linking.link_tails.Tie as tie
 
 abbrev Inv-loop : tie.InvT-loop
 Inv-loop rows r w head count heads₀ counts₀ next₀ p₀ n₀ most₀ heads counts next p n most =
