@@ -5,3 +5,7 @@ pub mod Lowest
 pub mod TailsFirst
 pub mod TailsFew
 pub mod Crowded
+pub mod Follow
+pub mod Rows
+pub mod Hits
+pub mod Walks

@@ -18,7 +18,7 @@ use Rattle.crowding.specs.Tails.{rowNumber}
 use Rattle.crowding.specs.Tails.{lowestCrowded, rowTails}
 use Rattle.crowding.proofs.Crowded.{good-rows}
 use Rattle.crowding.proofs.TailsFirst.{lowest-first}
-use Rattle.crowding_code.specs.Chains.{Ascends}
+use Rattle.crowding.specs.Chains.{Ascends}
 
 from-low : (lo : ℕ) (row : List ℕ) → T (ascending lo row) → (k : ℕ) → k < length row → lo ≤ getD row k 0
 from-low lo [] a k h = absurd (not-suc-le-zero h)

@@ -12,10 +12,10 @@ use Rattle.lists.specs.Lists.{All}
 use Rattle.lists.proofs.Alls.{all-imp}
 use Rattle.crowding.specs.Tails.{Tail, tailsAfter, lowestRow, overNodes, lowestCrowded}
 use Rattle.crowding.proofs.TailsFew.{lowest-few}
-use Rattle.crowding_code.specs.Chains.{tailsAt, follow, chain, lowestAt, lowestChild, Placed, Chained, NodesBelow, AtMost, AfterAtMost, EmptyBelow, AllChained, Grown, KeptTo, KeptBelow}
-use Rattle.crowding_code.proofs.Follow.{all-follow}
-use Rattle.crowding_code.proofs.Hits.{length-tails}
-use Rattle.crowding_code.proofs.Walks.{follow-kept-to, before-end}
+use Rattle.crowding.specs.Chains.{tailsAt, follow, chain, lowestAt, lowestChild, Placed, Chained, NodesBelow, AtMost, AfterAtMost, EmptyBelow, AllChained, Grown, KeptTo, KeptBelow}
+use Rattle.crowding.proofs.Follow.{all-follow}
+use Rattle.crowding.proofs.Hits.{length-tails}
+use Rattle.crowding.proofs.Walks.{follow-kept-to, before-end}
 
 over-next : (f : ℕ → ℕ → ℕ) (v least : ℕ) → 0 < v → overNodes f (v - 1) (f (v - 1) least) ≡ overNodes f v least
 unfolding overNodes

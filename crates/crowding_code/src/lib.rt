@@ -1,8 +1,4 @@
 // The packing test on rows in bytes, by sets that grow a node at a time.
-use counting::most_after;
-use counting::most_in_rows;
-use linking::link_rows;
-use linking::link_tails;
 use packing::Record;
 use packing::RowFound;
 ghost use mathlib.Core.Path.{_≡_};
@@ -13,10 +9,7 @@ ghost use Rattle.lists.specs.Lists.{All};
 ghost use Rattle.packing.specs.Rows.{ascending, rowsAt, firstCrowded};
 ghost use Rattle.packing.specs.Answers.{rowFound};
 ghost use Rattle.crowding.specs.Tails.{lowestCrowded, rowTails};
-ghost use Rattle.crowding_code.specs.Chains.{tailsAt, follow, lowestAt, Chained, Ascends, NodesBelow, AtMost, EmptyBelow, AllChained, KeptTo, lowestChild, KeptBelow};
-
-mod counting;
-mod linking;
+ghost use Rattle.crowding.specs.Chains.{tailsAt, follow, lowestAt, Chained, Ascends, NodesBelow, AtMost, EmptyBelow, AllChained, KeptTo, lowestChild, KeptBelow};
 
 fn lesser(a: usize, b: usize) -> usize
     ensures { λ r. ⌜ r ≡ min a b ⌝ }
@@ -84,12 +77,21 @@ fn visit(
     if w == 0 {
         return lowest(r, head, count, next, least);
     }
-    if most_after(rows, r, w, head, count, next) as usize <= bound {
+    if crowding_counting::most_after(rows, r, w, head, count, next) as usize <= bound {
         return least;
     }
     let mut heads = [0u16; 256];
     let mut counts = [0u16; 256];
-    let most = link_tails(rows, r, w - 1, head, count, &mut heads, &mut counts, next);
+    let most = crowding_linking::link_tails(
+        rows,
+        r,
+        w - 1,
+        head,
+        count,
+        &mut heads,
+        &mut counts,
+        next,
+    );
     if most as usize <= bound {
         return least;
     }
@@ -151,12 +153,12 @@ fn least_crowded(rows: &[u8], c: usize, r: usize, x: usize, bound: usize, next: 
     requires order { ⌜ Ascends r (now rows) ⌝ }
     ensures { λ n. ⌜ n ≡ lowestCrowded (suc x) bound (rowTails 0 (rowsAt r c (now (rows .entry)))) 65536 ⌝ }
 {
-    if most_in_rows(rows, c, r, x) as usize <= bound {
+    if crowding_counting::most_in_rows(rows, c, r, x) as usize <= bound {
         return 65536;
     }
     let mut heads = [0u16; 256];
     let mut counts = [0u16; 256];
-    link_rows(rows, c, r, x, &mut heads, &mut counts, next);
+    crowding_linking::link_rows(rows, c, r, x, &mut heads, &mut counts, next);
     let high = highest(rows) as usize + 1;
     children(rows, r, x, bound, high, &heads, &counts, 0, next, 65536)
 }

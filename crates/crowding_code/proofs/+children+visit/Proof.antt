@@ -3,8 +3,8 @@
 use mathlib.Core.Path.{_≡_, refl, _∙_}
 use lib.ListN.{length, getD}
 use Rattle.lists.proofs.Alls.{all-imp}
-use Rattle.crowding_code.specs.Chains.{rowEnd, tailsAt, follow, Placed}
-use Rattle.crowding_code.proofs.Follow.{at-most-zero}
+use Rattle.crowding.specs.Chains.{rowEnd, tailsAt, follow, Placed}
+use Rattle.crowding.proofs.Follow.{at-most-zero}
 use Rattle.crowding_code.proofs.Visits.{ToVisit, visit-start, visit-end, visit-skip, visit-chained, visit-next, visit-last, within-next, within-rows, after-few, grown-lowest, grown-few}
 use native.Mathlib.Omega.{arith}
 use borrow.Author.Needs.{needs}
@@ -17,8 +17,8 @@ use Rattle.crowding_code.proofs.+children+visit.Lts-children as childre
 use Rattle.crowding_code.proofs.visit.Reads as visit
 use Rattle.crowding_code.proofs.visit.Kinds as visit-kinds
 use Rattle.crowding_code.proofs.+children+visit.Lts-visit as visit-lts
-use Rattle.crowding_code.proofs.counting.most_after.Reads as most-after-reads
-use Rattle.crowding_code.proofs.linking.link_tails.Reads as link-tails-reads
+use Rattle.crowding_counting.proofs.most_after.Reads as most-after-reads
+use Rattle.crowding_linking.proofs.link_tails.Reads as link-tails-reads
 use Rattle.crowding_code.proofs.lowest.Reads as lowest-reads
 use Rattle.crowding_code.proofs.+children+visit.{statement}
 use Rattle.crowding_code.proofs.+children+visit.Tie.{close}

@@ -4,7 +4,7 @@ use mathlib.Core.Path.{refl, _∙_}
 use native.Mathlib.Nat.{mul-le-mul}
 use Rattle.packing.specs.Rows.{rowsAt}
 use Rattle.crowding.specs.Tails.{rowTails}
-use Rattle.crowding_code.proofs.Follow.{at-most-zero}
+use Rattle.crowding.proofs.Follow.{at-most-zero}
 use Rattle.crowding_code.proofs.Visits.{after-few, grown-lowest}
 use native.Mathlib.Omega.{arith}
 use borrow.Author.Needs.{needs}

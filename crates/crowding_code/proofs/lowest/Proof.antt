@@ -4,8 +4,8 @@ use Prim.Native.Nat.{ℕ, _-_, _<_}
 use mathlib.Core.Path.{_≡_, ap, _∙_}
 use lib.ListN.{length, getD}
 use Rattle.lists.specs.Lists.{All}
-use Rattle.crowding_code.specs.Chains.{follow, lowestAt}
-use Rattle.crowding_code.proofs.Follow.{all-follow, lowest-next, lowest-end}
+use Rattle.crowding.specs.Chains.{follow, lowestAt}
+use Rattle.crowding.proofs.Follow.{all-follow, lowest-next, lowest-end}
 use native.Mathlib.Omega.{arith}
 use borrow.Author.Needs.{needs}
 use Rattle.crowding_code.proofs.lowest.Statement.{statement}

@@ -1,0 +1,32 @@
+-- `counting::most_after` meets its contract. Assumes nothing.
+use Prim.Native.Nat.{_-_}
+use mathlib.Core.Path.{_≡_, refl}
+use Rattle.crowding.proofs.Follow.{at-most-zero}
+use Rattle.crowding.proofs.Hits.{chain-after}
+use native.Mathlib.Omega.{arith}
+use borrow.Author.Needs.{needs}
+use Rattle.crowding_counting.proofs.most_after.Statement.{statement}
+use Rattle.crowding_counting.proofs.most_after.Tie as tie
+
+returns : tie.Need-returns
+returns c =
+    let g = c .before .before .before .args in
+    chain-after (g .w - 1) (g .r) (g .rows .now) (g .count) (g .next .now) (g .head)
+
+slice-aggregate-count-tails : tie.Need-slice-aggregate-count-tails
+slice-aggregate-count-tails c = search needs
+
+count-tails-requires : tie.Need-count-tails-requires
+count-tails-requires c κs =
+    let pre = c .before .before .before .before .pre in
+    (pre .0, ((refl, at-most-zero 256), pre .1))
+
+returns-2 : tie.Need-returns-2
+returns-2 c =
+    let g = c .before .before .before .before .before .before .args in
+    let e : g .w - 1 ≡ 0 = omega (arith, c .before .before .before .if1 .left) in
+    rw e (c .before .count-tails .ensures)
+
+pub most-after-spec : {M : Type 1} → statement M
+most-after-spec =
+    tie.close (tie.spec returns slice-aggregate-count-tails count-tails-requires returns-2)
