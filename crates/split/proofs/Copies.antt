@@ -1,6 +1,6 @@
 -- The least copies of m blocks that hold c records, and what they lose. Assumes nothing.
 use Prim.Native.Nat.{ℕ, zero, suc, _+_, _*_, _-_, _≤_, _<_, zero-le}
-use native.Mathlib.Nat.{le-trans, div-zero, lt-div-mul-add, div-lt-iff-lt-mul, suc-mul, le-mul-of-pos-right}
+use native.Mathlib.Nat.{div-zero, lt-div-mul-add, div-lt-iff-lt-mul, suc-mul, le-mul-of-pos-right}
 use native.Mathlib.Omega.{arith}
 use mathlib.Core.Path.{_≡_}
 use Rattle.split.specs.Splits.{copiesFor}

@@ -2,7 +2,7 @@
 -- cost for each record and one for each copy; a sum with a floor is the floor of the sum, and the least floor is the floor of
 -- the least. Assumes nothing.
 use Prim.Native.Nat.{ℕ, zero, suc, _+_, _*_, _-_, _/_, _≤_, _<_, min}
-use native.Mathlib.Nat.{le-refl, le-antisymm, le-of-lt, min-le-left, min-le-right, le-mul-of-pos-right, mul-le-mul-left, mul-le-mul-right, mul-one, suc-mul, mul-add-div, le-div-iff-mul-le}
+use native.Mathlib.Nat.{le-refl, le-antisymm, le-of-lt, min-le-left, min-le-right, min-eq-left, min-eq-right, le-mul-of-pos-right, mul-le-mul-left, mul-le-mul-right, mul-one, suc-mul, mul-add-div, le-div-iff-mul-le}
 use native.Mathlib.Omega.{arith}
 use mathlib.Core.Path.{_≡_, sym, ap, _∙_}
 use mathlib.Core.Logic.{_⊎_, inl, inr}
@@ -129,6 +129,37 @@ module _ (u : Steps) (limits : StepLimits u) (below : List ℕ) (b : ℕ) where
       let x = least-le-byRecords in
       let y = least-le-byCopies in
       le-antisymm (omega arith) (le-least (stepSum u below b) _ b (none-less-of-both r within))
+
+-- where a copy costs the mark, or all the records that it holds, it is of no use
+module _ (u : Steps) (limits : StepLimits u) (below : List ℕ) (rising : Rising below) (dear : u .lost * min noSplit (u .size * u .each) ≤ u .copy) where
+  records-mul-le : (b d : ℕ) → stepped 1 1 (u .each) below b * u .lost ≤ withSteps (u .lost) (u .size) (u .copy) below b d
+  records-mul-le b zero =
+      let h = stepped-le 1 1 (u .each) below (omega arith) b 0 in
+      let e = withSteps-zero 1 1 (u .each) below (omega arith) b in
+      let g : stepped 1 1 (u .each) below b ≤ getD below b 0 = omega arith in
+      let q = withSteps-zero (u .lost) (u .size) (u .copy) below (limits .size-pos) b in
+      let m = mul-le-mul-left (u .lost) g in
+      omega arith
+  records-mul-le b (suc d) = go (le-or-lt noSplit (u .size * u .each))
+    where
+      go : (noSplit ≤ u .size * u .each) ⊎ (u .size * u .each < noSplit)
+          → stepped 1 1 (u .each) below b * u .lost ≤ withSteps (u .lost) (u .size) (u .copy) below b (suc d)
+      go (inl h) =
+          let e = ap (λ n. u .lost * n) (min-eq-left h) in
+          let m = mul-le-mul-left (u .lost) (stepped-le-mark 1 1 (u .each) below (omega arith) rising b) in
+          omega arith
+      go (inr h) =
+          let e = ap (λ n. u .lost * n) (min-eq-right (le-of-lt h)) in
+          let steps : stepped 1 1 (u .each) below b ≤ 1 * getD below (b - suc d * u .size) 0 + suc d * u .size * u .each =
+          rw (mul-one (suc d * u .size)) at (stepped-le 1 1 (u .each) below (omega arith) b (suc d * u .size)) in
+          let m = mul-le-mul-left (u .lost) steps in
+          let k = mul-le-mul-left (suc d) dear in
+          let f = ap (λ n. suc d * n) e in
+          omega arith
+
+  pub rowEntry-records : (b : ℕ) → rowEntry u below b ≡ stepped 1 1 (u .each) below b
+  rowEntry-records b =
+      min-eq-left (le-div-iff-mul-le (limits .lost-pos) .1 (le-stepped (u .lost) (u .size) (u .copy) below (limits .size-pos) _ b (records-mul-le b)))
 
 -- the whole row
 pub rowAbove-steps : (t : LossTerms) (below : List ℕ) → StepLimits (stepsOf t) → Rising below → length below ≤ 4_097

@@ -8,7 +8,6 @@ use Rattle.split.specs.Table.{stepSum}
 use Rattle.split_table.proofs.LayerSteps.{copies-lt, records-lt}
 use Rattle.split_code.proofs.Counting.{Counted, counted-none, counted-more, counted-taken, counted-left}
 use native.Mathlib.Omega.{arith}
-use borrow.Author.Needs.{needs}
 use Rattle.split_code.proofs.count.best_count.Statement.{statement}
 use Rattle.split_code.proofs.count.best_count.Tie as tie
 
