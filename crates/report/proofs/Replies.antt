@@ -12,21 +12,17 @@ use Rattle.report.specs.Programs.{checkLine, planReply}
 use Rattle.report.specs.Answers.{reply}
 use Rattle.report.specs.declared.Reply.{Reply}
 use Rattle.report.specs.declared.Reply.the-variants.{Written, Refused}
-use Rattle.report.specs.Replies.{Replied, checkSlice, planSlices, checkInto, planInto}
+use Rattle.report.specs.Replies.{Replied, planSlices, checkInto, planInto}
 
-module _ (output : ℕ) where
-  pub check-short : output < 200 → checkSlice output ≡ refused (ShortOutput 200)
-  unfolding checkSlice
-  check-short short = rw (lt-leb 200 output short)
-
-  pub check-enough : 200 ≤ output → checkSlice output ≡ accepted tt
-  unfolding checkSlice
-  check-enough enough = rw (le-leb 200 output enough)
+module _ (input : List ℕ) (output : ℕ) where
+  pub checkInto-short : output < 200 → checkInto input output ≡ refused (ShortOutput 200)
+  unfolding checkInto
+  checkInto-short short = rw (lt-leb 200 output short)
 
   -- In a slice as long as that of the program `check`, its line is never refused.
-  pub checkInto-enough : (input : List ℕ) → 200 ≤ output → checkInto input output ≡ accepted (checkLine input)
+  pub checkInto-enough : 200 ≤ output → checkInto input output ≡ accepted (checkLine input)
   unfolding checkInto
-  checkInto-enough input enough = rw (check-enough enough)
+  checkInto-enough enough = rw (le-leb 200 output enough)
 
 module _ (work output : ℕ) where
   pub plan-short-work : work < 20_485 → planSlices work output ≡ refused (ShortWork 20_485)

@@ -16,7 +16,7 @@ use Rattle.planner.specs.Planning.{planned}
 use Rattle.planner.proofs.Worked.{orders}
 use Rattle.report.specs.Load.{load, most, mean}
 use Rattle.report.specs.Programs.{digits, decimal, rest, acceptedWord, acceptedLine, orRefusedLine, checkLine, readOrder, planInput, planReply}
-use Rattle.report.specs.Replies.{checkSlice, planSlices, checkInto, planInto}
+use Rattle.report.specs.Replies.{planSlices, checkInto, planInto}
 
 -- "`check` prints `accepted 5 9 3 7 4 4`"; `plan` with the numbers 2 3 9 and then P writes the whole file
 pub lines : (checkLine (placementFile 5) ≡ acceptedWord ++ (32 ∷ 53 ∷ 32 ∷ 57 ∷ 32 ∷ 51 ∷ 32 ∷ 55 ∷ 32 ∷ 52 ∷ 32 ∷ 52 ∷ 10 ∷ []))
@@ -34,5 +34,5 @@ pub lent : (input : List ℕ)
     × (planInto input 20_484 20_543 ≡ refused (ShortWork 20_485))
     × (planInto input 20_485 20_543 ≡ refused (ShortOutput 20_544))
     × (planInto input 20_485 20_544 ≡ accepted (planReply input))
-unfolding checkSlice planSlices checkInto planInto
+unfolding planSlices checkInto planInto
 lent input = (refl, refl, refl, refl, refl)

@@ -10,13 +10,15 @@ use Rattle.placement.specs.Placement.{Placement, placementBytes}
 use Rattle.planner.specs.Planning.{planned, workNeeded, outputNeeded, WorkAfter}
 use Rattle.report.specs.Programs.{orRefusedLine, checkLine, planInput, planReply}
 
--- the bytes that a reply of `check` asks for, whatever the input: every line is shorter
+-- the bytes that `check` asks for, whatever the input: every line is shorter
 abbrev pub lineNeeded : ℕ
 lineNeeded = 200
 
--- "output too short": refusal 11 with the "bytes needed", before the input is looked at
-unfoldable pub checkSlice : (output : ℕ) → Checked Unit
-checkSlice output = require (leb lineNeeded output) (ShortOutput lineNeeded)
+-- what `check` writes into a slice of `output` bytes; "output too short": refusal 11 with the "bytes needed"
+unfoldable pub checkInto : (input : List ℕ) (output : ℕ) → Checked (List ℕ)
+checkInto input output = do
+  _ ← require (leb lineNeeded output) (ShortOutput lineNeeded)
+  accepted (checkLine input)
 
 -- `plan` asks for what the largest order needs, s 5 and b 4,096 with r 5, whatever the input: refusal 10, then 11
 unfoldable pub planSlices : (work output : ℕ) → Checked Unit
@@ -24,24 +26,18 @@ planSlices work output = do
   _ ← require (leb (workNeeded 5 4_096) work) (ShortWork (workNeeded 5 4_096))
   require (leb (outputNeeded 4_096 5) output) (ShortOutput (outputNeeded 4_096 5))
 
--- what `check` writes into a slice of `output` bytes
-unfoldable pub checkInto : (input : List ℕ) (output : ℕ) → Checked (List ℕ)
-checkInto input output = do
-  _ ← checkSlice output
-  accepted (checkLine input)
-
 -- what `plan` writes with slices of these lengths
 unfoldable pub planInto : (input : List ℕ) (work output : ℕ) → Checked (List ℕ)
 planInto input work output = do
   _ ← planSlices work output
   accepted (planReply input)
 
--- the working slice after a plan: its first s × (b+1) entries are free, the others as they were; after a refusal all are
+-- the working slice after planning: the first s × (b+1) entries are free after success, and no other entry changes
 abbrev pub WorkLeft : Checked Placement → (before after : List ℕ) → Type 0
 WorkLeft (accepted p) before after = WorkAfter (accepted p) (p .s) (p .b) before after
 WorkLeft (refused e) before after = after ≡ before
 
--- the working slice after what `plan` writes
+-- the working slice after `plan` has written, or refused its slices
 abbrev pub PlanWork : (input : List ℕ) (work output : ℕ) (before after : List ℕ) → Type 0
 PlanWork input work output before after = WorkLeft (planSlices work output >>= (λ _. planInput input)) before after
 

@@ -26,7 +26,7 @@ use Rattle.report.specs.Answers.{reply}
 use Rattle.report.specs.declared.Reply.{Reply}
 use Rattle.report.specs.declared.Reply.the-variants.{Written, Refused as NotWritten}
 use Rattle.report.specs.Replies.{Replied, checkInto}
-use Rattle.report.proofs.Replies.{check-short, check-enough}
+use Rattle.report.proofs.Replies.{checkInto-short, checkInto-enough}
 use Rattle.report.specs.Load.{load, most, mean}
 use Rattle.report.specs.Programs.{rest, acceptedWord, acceptedLine, refusedLine, checkLine}
 
@@ -143,10 +143,8 @@ CheckReply input before after answer =
 
 module _ (input before : List ℕ) where
   pub check-refused : length before < 200 → CheckReply input before before (NotWritten (ShortOutput 200))
-  unfolding checkInto
-  check-refused short = rw (check-short (length before) short) (refl, refl)
+  check-refused short = rw (checkInto-short input (length before) short) (refl, refl)
 
   pub check-written : {n : ℕ} {after : List ℕ} → 200 ≤ length before → Replied (checkLine input) n before after
       → CheckReply input before after (Written n)
-  unfolding checkInto
-  check-written enough r = rw (check-enough (length before) enough) (ap Written (r .answered), r .written)
+  check-written enough r = rw (checkInto-enough input (length before) enough) (ap Written (r .answered), r .written)

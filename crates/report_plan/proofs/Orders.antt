@@ -1,13 +1,11 @@
--- The three numbers that `plan` reads, as the code reads them, and what follows them. Assumes nothing.
+-- What `plan` writes, from the three numbers that were read. Assumes nothing.
 use Prim.Native.Nat.{ℕ, _-_, _≤_}
 use mathlib.Core.Path.{_≡_, refl, sym, _∙_}
 use mathlib.Core.List.{List}
 use lib.ListN.{length, take, drop}
 use Rattle.lists.proofs.Writing.{take-drop-rest}
 use Rattle.refusal.specs.declared.Refusal.{Refusal}
-use Rattle.refusal.specs.declared.Refusal.the-variants.{BadOrder}
 use Rattle.refusal.specs.Checked.{Checked, accepted, refused}
-use Rattle.number.specs.Numbers.{Reading, readNumber}
 use Rattle.planner.specs.Planning.{planned}
 use Rattle.report.specs.Programs.{Order, readOrder, refusedLine, planInput, planReply}
 use Rattle.report.specs.Replies.{Replied, plannedReply, WorkLeft}
@@ -15,29 +13,6 @@ use Rattle.report.specs.Answers.{orderRead}
 use Rattle.report.specs.declared.OrderRead.{OrderRead}
 use Rattle.report.specs.declared.OrderRead.the-variants.{Value, Refused}
 use Rattle.report.proofs.Orders.{order-place}
-
--- "three numbers that can't be read give 12 and the first bad one's index"
-module _ (input : List ℕ) where
-  pub s-refused : {why : Refusal} → readNumber input 0 ≡ refused why → Refused (BadOrder 0) ≡ orderRead (readOrder input)
-  unfolding readOrder
-  s-refused e = rw e
-
-  module _ {s : Reading} (e₁ : readNumber input 0 ≡ accepted s) where
-    pub k-refused : {why : Refusal} → readNumber input (s .next) ≡ refused why
-        → Refused (BadOrder 1) ≡ orderRead (readOrder input)
-    unfolding readOrder
-    k-refused e = rw (e₁, e)
-
-    module _ {k : Reading} (e₂ : readNumber input (s .next) ≡ accepted k) where
-      pub b-refused : {why : Refusal} → readNumber input (k .next) ≡ refused why
-          → Refused (BadOrder 2) ≡ orderRead (readOrder input)
-      unfolding readOrder
-      b-refused e = rw (e₁, e₂, e)
-
-      pub order-is : {b : Reading} → readNumber input (k .next) ≡ accepted b
-          → Value (s .value) (k .value) (b .value) (b .next) ≡ orderRead (readOrder input)
-      unfolding readOrder
-      order-is e = rw (e₁, e₂, e)
 
 -- the code's answer says what was read
 orderRead-value : (o : Checked Order) {s k b at : ℕ} → Value s k b at ≡ orderRead o

@@ -4,35 +4,13 @@ ghost use Prim.Native.Nat.{_≤_};
 ghost use lib.ListN.{length};
 ghost use Rattle.refusal.specs.Checked.{written};
 ghost use Rattle.planner.specs.Planning.{planned};
-ghost use Rattle.report.specs.Programs.{readOrder, planInput, planReply};
+ghost use Rattle.report.specs.Programs.{planInput, planReply};
 ghost use Rattle.report.specs.Replies.{Replied, plannedReply, planInto, WorkLeft, PlanWork};
-ghost use Rattle.report.specs.Answers.{reply, orderRead};
-use number::NumberRead;
+ghost use Rattle.report.specs.Answers.{reply};
 use planner::PlanAnswer;
 use refusal::Refusal;
 use report::OrderRead;
 use report::Reply;
-
-// Reads s, k and b at the start of the input.
-fn read_order(input: &[u8]) -> OrderRead
-    ensures { λ r. ⌜ r ≡ orderRead (readOrder (now (input .entry))) ⌝ }
-{
-    let NumberRead::Value(s, k_at) = number_reader::read_number(input, 0) else {
-        return OrderRead::Refused(Refusal::BadOrder(0));
-    };
-    let NumberRead::Value(k, b_at) = number_reader::read_number(input, k_at) else {
-        return OrderRead::Refused(Refusal::BadOrder(1));
-    };
-    let NumberRead::Value(b, pack_at) = number_reader::read_number(input, b_at) else {
-        return OrderRead::Refused(Refusal::BadOrder(2));
-    };
-    OrderRead::Value {
-        s,
-        k,
-        b,
-        at: pack_at,
-    }
-}
 
 // Puts the placement that is planned, or the line of the refusal, at the start of `out`, and answers its length.
 fn planned_reply(
@@ -61,7 +39,7 @@ fn plan_input(input: &[u8], work: &mut [u16], out: &mut [u8]) -> usize
     ensures { λ r. ⌜ Replied (planReply (now (input .entry))) r (now (out .entry)) (now (out .exit)) ⌝ }
     ensures { λ _. ⌜ WorkLeft (planInput (now (input .entry))) (now (work .entry)) (now (work .exit)) ⌝ }
 {
-    match read_order(input) {
+    match report_reader::read_order(input) {
         OrderRead::Refused(e) => report_lines::refused_line(out, e),
         OrderRead::Value { s, k, b, at } => planned_reply(&input[at..], s, k, b, work, out),
     }

@@ -1,13 +1,13 @@
--- `report_plan::read_order` meets its contract: the first of the three numbers that can't be read gives 12 and its index.
+-- `report_reader::read_order` meets its contract: the first of the three numbers that can't be read gives 12 and its index.
 -- Assumes nothing.
 use mathlib.Core.Path.{_≡_, sym, _∙_}
 use borrow.Author.Needs.{needs}
 use Rattle.refusal.specs.Checked.{accepted}
 use Rattle.number.specs.Numbers.{readNumber}
 use Rattle.number.proofs.Within.{numberRead-value, numberRead-refused}
-use Rattle.report_plan.proofs.Orders.{s-refused, k-refused, b-refused, order-is}
-use Rattle.report_plan.proofs.read_order.Statement.{statement}
-use Rattle.report_plan.proofs.read_order.Tie as tie
+use Rattle.report_reader.proofs.Orders.{s-refused, k-refused, b-refused, order-is}
+use Rattle.report_reader.proofs.read_order.Statement.{statement}
+use Rattle.report_reader.proofs.read_order.Tie as tie
 
 -- the numbers that were read
 s-read : (c : tie.After-s)
