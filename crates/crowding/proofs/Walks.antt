@@ -8,7 +8,7 @@ use lib.ListN.{length, getD}
 use Rattle.lists.specs.Lists.{All}
 use Rattle.lists.proofs.Alls.{all-imp, all-append, all-append-left, all-append-right}
 use Rattle.crowding.specs.Tails.{Tail, tailsAfter}
-use Rattle.crowding.specs.Chains.{rowEnd, tailsAt, follow, chain, Outside, Apart, Placed, Ascends, AtMost, EmptyTo, Fresh, AllChained, KeptOutside, KeptTo, Linked}
+use Rattle.crowding.specs.Chains.{rowEnd, tailsAt, follow, chain, Outside, Apart, Placed, Ascends, AtMost, EmptyBelow, Fresh, AllChained, KeptOutside, KeptTo, Linked}
 use Rattle.crowding.proofs.Follow.{length-follow, follow-next, follow-kept, chain-empty}
 use Rattle.crowding.proofs.Rows.{in-row, row-end, linked-elim, tails-linked, nodesFrom, step}
 
@@ -50,7 +50,7 @@ follow-kept-to rows v m n next last p r le kept h =
 -- the level while the chain that is left to walk is `rest`; `goal` is what comes of it
 abbrev pub Walk : (r w : ℕ) (rows : List ℕ) (v : ℕ) (goal : ℕ → List Tail) (heads counts next rest : List ℕ) → Type 0
 Walk r w rows v goal heads counts next rest =
-    EmptyTo v counts × All (Placed r rows v) rest × ((u : ℕ) → All (Placed r rows u) (chain heads counts next u))
+    EmptyBelow (v + 1) counts × All (Placed r rows v) rest × ((u : ℕ) → All (Placed r rows u) (chain heads counts next u))
     × ((u : ℕ) → Apart r (chain heads counts next u ++ rest))
     × ((u : ℕ) → tailsAfter w u (tailsAt r rows rest) (tailsAt r rows (chain heads counts next u)) ≡ goal u)
 
@@ -149,7 +149,7 @@ module _ (rows : List ℕ) (r w p v : ℕ) (pos : 0 < r) (order : Ascends r rows
 
     module _ (heads′ counts′ next′ : List ℕ)
         (link : Linked rows (p + 1) (rowEnd r p - w - (p + 1)) heads counts next heads′ counts′ next′) where
-      walk-empty : EmptyTo v counts′
+      walk-empty : EmptyBelow (v + 1) counts′
       walk-empty u le =
           let old = length-follow (getD counts u 0) next (getD heads u 0) in
           let now = length-follow (getD counts′ u 0) next′ (getD heads′ u 0) in

@@ -70,12 +70,9 @@ Ascends r rows = (p q : ℕ) → p < q → q < rowEnd r p → rowEnd r p ≤ len
 abbrev pub NodesBelow : (n : ℕ) (rows : List ℕ) → Type 0
 NodesBelow n rows = (p : ℕ) → p < length rows → getD rows p 0 < n
 
--- every chain is at most m long; those of the nodes up to v, or below it, are empty
+-- every chain is at most m long; those of the nodes below v are empty
 abbrev pub AtMost : (m : ℕ) (counts : List ℕ) → Type 0
 AtMost m counts = (v : ℕ) → getD counts v 0 ≤ m
-
-abbrev pub EmptyTo : (v : ℕ) (counts : List ℕ) → Type 0
-EmptyTo v counts = (u : ℕ) → u ≤ v → getD counts u 0 ≡ 0
 
 abbrev pub EmptyBelow : (v : ℕ) (counts : List ℕ) → Type 0
 EmptyBelow v counts = (u : ℕ) → u < v → getD counts u 0 ≡ 0
@@ -111,7 +108,7 @@ lowestChild w bound r rows heads counts next least =
 
 -- what is kept where only nodes that have a chain are visited
 abbrev pub KeptBelow : (rows counts next last : List ℕ) → Type 0
-KeptBelow rows counts next last = (v : ℕ) → EmptyTo v counts → KeptTo v rows next last
+KeptBelow rows counts next last = (v : ℕ) → EmptyBelow (v + 1) counts → KeptTo v rows next last
 
 -- each node's count is raised by the positions that have the node
 abbrev pub Counted : (rows : List ℕ) (from n : ℕ) (counts last : List ℕ) → Type 0

@@ -1,4 +1,5 @@
--- Ascending rows, node by node; the bytes of the rows alone, and what the code finds in them; nodes up to a number. Assumes nothing.
+-- Ascending rows, node by node; the bytes of the rows alone, and what the code finds in them; nodes up to a number.
+-- Assumes nothing.
 use Prim.Native.Nat.{ℕ, zero, suc, _+_, _-_, _*_, _/_, _≤_, _<_}
 use mathlib.Core.Path.{_≡_, refl, sym, ap, ap₂, subst, _∙_}
 use mathlib.Core.Bool.{Bool, true, false}

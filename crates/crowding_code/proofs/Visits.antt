@@ -123,7 +123,7 @@ module _ (r w bound : ℕ) (rows heads counts next₀ : List ℕ) (least₀ : �
           ∙ over-next visited v least pos
           ∙ h .1,
       λ u empty p le.
-          (let not : v - 1 ≤ u → ⊥ = λ low. omega (arith, empty (v - 1) low) in
+          (let not : v - 1 ≤ u → ⊥ = λ low. omega (arith, empty (v - 1) (omega arith)) in
           kept p (omega (arith, not, head-node)))
           ∙ h .2 u empty p le,
     )

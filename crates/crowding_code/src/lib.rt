@@ -110,8 +110,8 @@ fn visit(
     )
 }
 
-// Visits each node of a level, from `low` to `high`, whose chain is longer than the bound, the largest first: what is linked then
-// for a node are larger nodes, so the chains still to be visited stay.
+// Visits each node of a level, from `low` to `high`, whose chain is longer than the bound, the largest first: what is
+// linked then for a node are larger nodes, so the chains still to be visited stay.
 fn children(
     rows: &[u8],
     r: usize,

@@ -1,10 +1,10 @@
 // Linking the positions of rows in chains, one for each node.
 ghost use mathlib.Core.Path.{_≡_};
-ghost use Prim.Native.Nat.{_*_, _-_, _≤_, _<_};
+ghost use Prim.Native.Nat.{_+_, _*_, _-_, _≤_, _<_};
 ghost use lib.ListN.{length, getD};
 ghost use Rattle.packing.specs.Rows.{rowsAt};
 ghost use Rattle.crowding.specs.Tails.{rowTails};
-ghost use Rattle.crowding.specs.Chains.{tailsAt, follow, Chained, Ascends, AtMost, EmptyTo, Fresh, AllChained, KeptOutside, KeptTo, Linked, Grown};
+ghost use Rattle.crowding.specs.Chains.{tailsAt, follow, Chained, Ascends, AtMost, EmptyBelow, Fresh, AllChained, KeptOutside, KeptTo, Linked, Grown};
 
 // The larger of two lengths.
 pub fn larger(a: u16, b: u16) -> u16
@@ -69,7 +69,7 @@ pub fn link_tails(
         ⌜ AllChained r (now (rows .entry)) (now (heads .exit)) (now (counts .exit)) (now (next .exit)) ⌝ }
     ensures few { λ m.
         ⌜ AtMost m (now (counts .exit)) × AtMost count (now (counts .exit))
-        × EmptyTo (getD (now (rows .entry)) head 0) (now (counts .exit)) ⌝ }
+        × EmptyBelow (getD (now (rows .entry)) head 0 + 1) (now (counts .exit)) ⌝ }
     ensures kept { λ m.
         ⌜ KeptTo (getD (now (rows .entry)) head 0) (now (rows .entry)) (now (next .entry)) (now (next .exit)) ⌝ }
 {

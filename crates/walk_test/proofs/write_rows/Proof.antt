@@ -1,6 +1,6 @@
 -- `walk_test::write_rows` ends: each row that is handed out leaves one fewer. Assumes nothing.
 use Prim.Native.Nat.{_<_}
-use mathlib.Core.Path.{sym, _∙_, ap, subst}
+use mathlib.Core.Path.{sym, _∙_, subst}
 use borrow.Author.Needs.{needs}
 use Rattle.walk.specs.declared.Cursor.{Cursor}
 use Rattle.walk.proofs.Steps.{left-falls}
