@@ -70,7 +70,7 @@ fn after_kind(bytes: &[u8], at: usize) -> PackCheck
 // Checks a pack: its head's numbers in the file's order, then its blocks.
 //
 // Accepted exactly where the bytes are the file of a pack with document 01's limits, blocks in order and the packing of every
-// layer: `pack-accepted-iff`, proofs/Accepted.antt.
+// layer: `pack-accepted-iff` in `pack`.
 pub fn check_pack(bytes: &[u8]) -> PackCheck
     ensures { λ check. ⌜ check ≡ packChecked (now (bytes .entry)) (checkPack (now (bytes .entry))) ⌝ }
 {

@@ -162,8 +162,8 @@ fn after_kind(bytes: &[u8], at: usize) -> PlacementCheck
 // Checks a placement: its head's numbers in the file's order, then its rows, then its figure.
 //
 // Accepted exactly where the bytes are the file of a placement with document 01's limits, rows in order, the packing of every
-// layer and the formula's figure: `placement-accepted-iff`, proofs/Accepted.antt. The figure of an accepted placement holds
-// whichever k of its n nodes fail: `survivors`, proofs/Survivors.antt.
+// layer and the formula's figure: `placement-accepted-iff` in `placement`. The figure of an accepted placement holds
+// whichever k of its n nodes fail: `survivors` in `placement`.
 pub fn check_placement(bytes: &[u8]) -> PlacementCheck
     ensures { λ check. ⌜ check ≡ placementChecked (now (bytes .entry)) (checkPlacement (now (bytes .entry))) ⌝ }
 {

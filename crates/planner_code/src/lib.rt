@@ -57,10 +57,10 @@ fn plan_pack(
 // Plans b records on a pack so that a record fails with s of its replicas and k nodes fail: writes the placement that
 // document 01 names to the start of `out`. The working slice's first s × (b+1) entries are free afterwards.
 //
-// Demand 3 is proved of these definitions in proofs/Planned.antt: for an accepted pack, an order within limits with a block
-// below s and slices of the lengths stated, it doesn't refuse (`plan-never-refuses`), the checker accepts what is written
-// (`plan-accepted`), its figure holds whichever k nodes fail (`plan-survives`), and no other split has a higher one
-// (`named-highest`, in split's proofs/Named.antt).
+// Demand 3 is proved of these definitions in `planner`, proofs/Planned.antt: for an accepted pack, an order within limits with
+// a block below s and slices of the lengths stated, it doesn't refuse (`plan-never-refuses`), the checker accepts what is
+// written (`plan-accepted`), its figure holds whichever k nodes fail (`plan-survives`), and no other split has a higher one
+// (`named-highest` in `split`).
 pub fn plan(
     pack: &[u8],
     s: usize,
