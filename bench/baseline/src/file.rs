@@ -1,6 +1,6 @@
 //! Packs and placements: heads, row order and loads, packing, the figure.
 
-use crate::crowding::{Counter, PackingTest};
+use crate::crowding::PackingTest;
 use crate::number::{Reader, Refusal, refused};
 
 /// A layer's bound (mu or lambda) and its number of rows.
@@ -27,7 +27,7 @@ pub struct Placement {
 }
 
 impl<'a> Pack<'a> {
-    pub fn check(bytes: &'a [u8]) -> Result<Self, Refusal> {
+    pub fn check<T: PackingTest>(bytes: &'a [u8]) -> Result<Self, Refusal> {
         let mut head = Reader::new(bytes);
         head.kind(1)?;
         let n = head.within(2, 255)?;
@@ -40,7 +40,7 @@ impl<'a> Pack<'a> {
             size += layer.size;
         }
         let rows = rows_after(&head, size * r)?;
-        check_rows::<Counter>(rows, head.at, n, r, &layers[..r])?;
+        check_rows::<T>(rows, head.at, n, r, &layers[..r])?;
         Ok(Pack { n, r, layers, rows })
     }
 }

@@ -48,22 +48,22 @@ pub fn check_reply<T: PackingTest>(input: &[u8]) -> Vec<u8> {
 }
 
 /// What `plan` writes for these bytes.
-pub fn plan_reply(input: &[u8], fill: Fill) -> Vec<u8> {
-    plan(input, fill).unwrap_or_else(refused_line)
+pub fn plan_reply<T: PackingTest>(input: &[u8], fill: Fill) -> Vec<u8> {
+    plan::<T>(input, fill).unwrap_or_else(refused_line)
 }
 
 fn refused_line(e: Refusal) -> Vec<u8> {
     text::line("refused", &[e.number, e.place])
 }
 
-fn plan(input: &[u8], fill: Fill) -> Result<Vec<u8>, Refusal> {
+fn plan<T: PackingTest>(input: &[u8], fill: Fill) -> Result<Vec<u8>, Refusal> {
     let mut head = Reader::new(input);
     let mut order = [0; 3];
     for (index, value) in order.iter_mut().enumerate() {
         *value = head.number().map_err(|_| Refusal { number: 12, place: index })?;
     }
     let [s, k, b] = order;
-    let pack = Pack::check(&input[head.at..])?;
+    let pack = Pack::check::<T>(&input[head.at..])?;
     if !(1..=pack.r).contains(&s) {
         return refused(12, 0);
     }
@@ -122,8 +122,8 @@ mod tests {
     }
 
     fn both(input: &[u8]) -> Vec<u8> {
-        let reply = plan_reply(input, split::by_recurrence);
-        assert_eq!(reply, plan_reply(input, split::by_candidates));
+        let reply = plan_reply::<crowding::Counter>(input, split::by_recurrence);
+        assert_eq!(reply, plan_reply::<sorted::Sorted>(input, split::by_candidates));
         reply
     }
 

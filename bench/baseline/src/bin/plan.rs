@@ -1,3 +1,4 @@
 fn main() {
-    baseline::write_output(&baseline::plan_reply(&baseline::read_input(), baseline::split::by_recurrence));
+    let input = baseline::read_input();
+    baseline::write_output(&baseline::plan_reply::<baseline::crowding::Counter>(&input, baseline::split::by_recurrence));
 }

@@ -1,5 +1,7 @@
-//! `plan` with every useful count tried, for comparison with the recurrence of `plan`.
+//! `plan` with the packing test by sorting and every useful count tried, for comparison with the counting and the recurrence
+//! of `plan`.
 
 fn main() {
-    baseline::write_output(&baseline::plan_reply(&baseline::read_input(), baseline::split::by_candidates));
+    let input = baseline::read_input();
+    baseline::write_output(&baseline::plan_reply::<baseline::sorted::Sorted>(&input, baseline::split::by_candidates));
 }
