@@ -5,20 +5,10 @@ use layers::LayersRead;
 use number::NumberRead;
 use refusal::Refusal;
 ghost use mathlib.Core.Path.{_≡_};
-ghost use Prim.Native.Nat.{_≤_, min};
+ghost use Prim.Native.Nat.{_≤_};
 ghost use Rattle.number.specs.Answers.{numberRead};
 ghost use Rattle.layers.specs.Layers.{leastSize, readKind, readLayers};
 ghost use Rattle.layers.specs.Answers.{refusalOf, readLayer, layerRead, layersRead, layerFailed};
-
-// The smaller of the two.
-pub fn smaller(a: usize, b: usize) -> usize
-    ensures { λ r. ⌜ r ≡ min a b ⌝ }
-{
-    if a < b {
-        return a;
-    }
-    b
-}
 
 // The refusal of a number that was not read. One that was read has none: the end at its next place stands for it.
 pub fn refusal_of(read: NumberRead) -> Refusal

@@ -49,7 +49,7 @@ fn after_r(bytes: &[u8], n: usize, r: usize, at: usize) -> PackCheck
 fn after_n(bytes: &[u8], n: usize, at: usize) -> PackCheck
     ensures { λ check. ⌜ check ≡ packChecked (now (bytes .entry)) (afterN (now (bytes .entry)) n at) ⌝ }
 {
-    let read = number_reader::read_within(bytes, at, 2, layers_reader::smaller(5, n));
+    let read = number_reader::read_within(bytes, at, 2, minmax::smaller(5, n));
     let NumberRead::Value(r, next) = read else {
         return refuse(layers_reader::refusal_of(read));
     };

@@ -141,7 +141,7 @@ fn after_n(bytes: &[u8], n: usize, at: usize) -> PlacementCheck
     requires { ⌜ (2 ≤ n) × (n ≤ 255) ⌝ }
     ensures { λ check. ⌜ check ≡ placementChecked (now (bytes .entry)) (afterN (now (bytes .entry)) n at) ⌝ }
 {
-    let read = number_reader::read_within(bytes, at, 2, layers_reader::smaller(5, n));
+    let read = number_reader::read_within(bytes, at, 2, minmax::smaller(5, n));
     let NumberRead::Value(r, next) = read else {
         return refuse(layers_reader::refusal_of(read));
     };

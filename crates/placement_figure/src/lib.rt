@@ -11,7 +11,7 @@ fn loss(lambda: usize, c: usize, above: usize, below: usize) -> usize
     requires { ⌜ (lambda * above < 2 ^ 63) × (1 ≤ below) ⌝ }
     ensures { λ r. ⌜ r ≡ min c (lambda * above / below) ⌝ }
 {
-    layers_reader::smaller(c, lambda * above / below)
+    minmax::smaller(c, lambda * above / below)
 }
 
 // The figure: b less the losses of the layers below s. The two binomials are looked up once a layer.

@@ -1,6 +1,6 @@
 // How many rows hold a node.
 ghost use mathlib.Core.Path.{_≡_};
-ghost use Prim.Native.Nat.{ℕ, _*_, max, _≤_, _<_};
+ghost use Prim.Native.Nat.{ℕ, _*_, _≤_, _<_};
 ghost use mathlib.Core.List.{map};
 ghost use lib.ListN.{length, getD};
 ghost use lib.Dec.{T, eqb};
@@ -23,16 +23,6 @@ fn byte_counts(bytes: &[u8]) -> [usize; 256]
     counts
 }
 
-// The larger of two numbers.
-fn larger(a: usize, b: usize) -> usize
-    ensures { λ most. ⌜ most ≡ max a b ⌝ }
-{
-    if a < b {
-        return b;
-    }
-    a
-}
-
 // The largest of the counts, 0 where there is none.
 fn largest_count(counts: &[usize]) -> usize
     ensures { λ most. ⌜ most ≡ largest (now (counts .entry)) ⌝ }
@@ -40,7 +30,7 @@ fn largest_count(counts: &[usize]) -> usize
     let mut most: usize = 0;
     let mut looked: usize = 0;
     while looked < counts.len() {
-        most = larger(most, counts[looked]);
+        most = minmax::larger(most, counts[looked]);
         looked += 1;
     }
     most

@@ -1,6 +1,6 @@
 // The count of one layer.
+use minmax::smaller;
 use split::Steps;
-use split_table::smaller;
 ghost use mathlib.Core.Path.{_≡_};
 ghost use Prim.Native.Nat.{_≤_, _<_};
 ghost use lib.ListN.{length};

@@ -3,7 +3,7 @@ use rows::base_row;
 use rows::raise_row;
 use split::Steps;
 ghost use mathlib.Core.Path.{_≡_};
-ghost use Prim.Native.Nat.{suc, _*_, _≤_, _<_, min};
+ghost use Prim.Native.Nat.{suc, _*_, _≤_, _<_};
 ghost use lib.ListN.{length, getD};
 ghost use Rattle.split.specs.Arrays.{arrayHeads};
 ghost use Rattle.split.specs.Table.{termsOf, stepsOf, Limits};
@@ -33,12 +33,6 @@ pub fn steps(mu: [usize; 5], m: [usize; 5], s: usize, k: usize, x: usize) -> Ste
         copy,
         lost,
     }
-}
-
-pub fn smaller(a: usize, b: usize) -> usize
-    ensures { λ r. ⌜ r ≡ min a b ⌝ }
-{
-    if a <= b { a } else { b }
 }
 
 // Writes every row: row 0, then each from the one before it.

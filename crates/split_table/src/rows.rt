@@ -1,5 +1,5 @@
 // The rows of the planner's table.
-use crate::smaller;
+use minmax::smaller;
 use split::Steps;
 ghost use mathlib.Core.Path.{_≡_};
 ghost use Prim.Native.Nat.{_+_, _-_, _≤_};
