@@ -1,11 +1,14 @@
 -- The code's arrays of five numbers, and the layers' two numbers that they give. Assumes nothing.
-use Prim.Native.Nat.{ℕ, zero, suc, _+_, _≤_, _<_}
+use Prim.Native.Nat.{ℕ, zero, suc, _+_, _-_, _≤_, _<_}
 use native.Mathlib.Omega.{arith}
 use native.Mathlib.Numerals.{add-one}
 use mathlib.Core.Path.{_≡_, refl, sym, _∙_, ap}
+use mathlib.Core.Bool.{Bool, true, false}
 use mathlib.Core.List.{List, [], _∷_, _++_, map, map-append}
-use lib.ListN.{length, take, drop, getD, replicate, length-map, List·getD-append, List·getD-map}
-use lib.Seq.{take-suc, drop-cons, drop-length, getD-take, ext-getD}
+use lib.ListN.{length, take, drop, getD, replicate, getD-replicate, List·getD-append, List·getD-map, List·getD-eq-default}
+use lib.Seq.{take-suc, drop-cons, drop-length, getD-take, getD-append-add, ext-getD}
+use lib.Dec.{ltb}
+use borrow.Author.Tests.{ltb-true, ltb-false}
 use Rattle.lists.specs.Lists.{total, upTo}
 use Rattle.lists.proofs.Counts.{total-append}
 use Rattle.lists.proofs.UpTo.{map-upTo-suc, length-map-upTo, getD-map-upTo}
@@ -57,8 +60,19 @@ module _ (bound size : List ℕ) where
       ap (λ k. drop k (arrayHeads n bound size)) (sym (length-map-upTo headAt n)) ∙ drop-length
       (arrayHeads n bound size)
 
-getD-five : (l : List ℕ) (i : ℕ) → i < length l → i < 5 → getD (five l) i 0 ≡ getD l i 0
-getD-five l i h k = getD-take 5 (l ++ replicate 5 0) i 0 k ∙ List·getD-append l (replicate 5 0) 0 i h
+-- a number of up to five
+pub getD-five : (l : List ℕ) (x : ℕ) → x < 5 → getD (five l) x 0 ≡ getD l x 0
+getD-five l x h = getD-take 5 (l ++ replicate 5 0) x 0 h ∙ go (ltb x (length l)) refl
+  where
+    go : (t : Bool) → ltb x (length l) ≡ t → getD (l ++ replicate 5 0) x 0 ≡ getD l x 0
+    go true e = List·getD-append l (replicate 5 0) 0 x (ltb-true x (length l) e)
+    go false e =
+        let g = ltb-false x (length l) e in
+        let q : length l + (x - length l) ≡ x = omega arith in
+        ap (λ i. getD (l ++ replicate 5 0) i 0) (sym q)
+        ∙ getD-append-add l (replicate 5 0) (x - length l) 0
+        ∙ getD-replicate 5 (x - length l) 0 0 (omega arith)
+        ∙ sym (List·getD-eq-default l 0 {n = x} g)
 
 -- up to five layers' numbers are what their arrays give
 pub arrayHeads-five : (heads : List LayerHead) (n : ℕ) → length heads ≡ n → n ≤ 5
@@ -80,11 +94,11 @@ arrayHeads-five heads n e h =
     same i lt =
         let less : i < n = omega (arith, length-map-upTo (headAt bounds sizes′) n) in
         let b : getD bounds i 0 ≡ getD heads i none .bound =
-        getD-five (map (λ head. head .bound) heads) i (rw (length-map heads (λ head. head .bound)) (omega arith))
+        getD-five (map (λ head. head .bound) heads) i
         (omega arith)
         ∙ List·getD-map (λ head. head .bound) heads i none in
         let z : getD sizes′ i 0 ≡ getD heads i none .size =
-        getD-five (map (λ head. head .size) heads) i (rw (length-map heads (λ head. head .size)) (omega arith))
+        getD-five (map (λ head. head .size) heads) i
         (omega arith)
         ∙ List·getD-map (λ head. head .size) heads i none in
         getD-map-upTo (headAt bounds sizes′) n i none less ∙ (λ j. record { bound = b j; size = z j })

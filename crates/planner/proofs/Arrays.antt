@@ -8,11 +8,12 @@ use lib.ListN.{length, getD, take, drop}
 use lib.Seq.{drop-drop}
 use Rattle.lists.specs.Lists.{All, total, upTo}
 use Rattle.lists.proofs.Alls.{all-map}
-use Rattle.lists.proofs.UpTo.{length-map-upTo, all-upTo, getD-map-upTo, map-upTo-congr}
+use Rattle.lists.proofs.UpTo.{length-map-upTo, all-upTo, map-upTo-congr}
 use Rattle.packing.specs.Rows.{rowsAt, repeated}
 use Rattle.layers.specs.Layers.{LayerHead, size, sizes, allRows, headsOf, layersAt}
 use Rattle.layers.proofs.Layouts.{headsOf-layersAt}
 use Rattle.pack.specs.Pack.{Pack}
+use Rattle.split.proofs.Terms.{layerAt-arrayHeads}
 use Rattle.split.specs.Splits.{Share, layerAt, copiesFor, shareHead, splitHeads}
 use Rattle.split.proofs.Bounds.{copiesFor-mul-bound-le}
 use Rattle.lists.proofs.UpTo.{take-map-upTo}
@@ -39,20 +40,17 @@ module _ (mu m : List ℕ) where
   pub sizes-arrayHeads : (x : ℕ) → sizes (arrayHeads x mu m) ≡ totalBelow m x
   sizes-arrayHeads x = ap total (map-map (λ head. head .size) headAt (upTo x))
 
-  pub layerAt-arrayHeads : (r x : ℕ) → x < r → layerAt (arrayHeads r mu m) x ≡ headAt x
-  layerAt-arrayHeads r x h = getD-map-upTo headAt r x (record { bound = 0; size = 0 }) h
-
   pub take-arrayHeads : (r x : ℕ) → x ≤ r → take x (arrayHeads r mu m) ≡ arrayHeads x mu m
   take-arrayHeads r x h =
       take-map-upTo headAt (arrayHeads r mu m) (record { bound = 0; size = 0 }) x (rw (length-map-upTo headAt r) h)
-      (λ i lt. layerAt-arrayHeads r i (omega arith))
+      (λ i lt. layerAt-arrayHeads mu m r i (omega arith))
 
   -- layer x's blocks in the bytes
   pub blocksAt-arrayHeads : (r : ℕ) (blocks : List ℕ) (x : ℕ) → x < r
       → blocksAt (layersAt r (arrayHeads r mu m) blocks) x .rows ≡ rowsAt r (getD m x 0) (drop (totalBelow m x * r) blocks)
   blocksAt-arrayHeads r blocks x h =
       blocksAt-layersAt r (arrayHeads r mu m) blocks x (rw (length-map-upTo headAt r) h)
-      ∙ rw (layerAt-arrayHeads r x h, take-arrayHeads r x (omega arith), sizes-arrayHeads x)
+      ∙ rw (layerAt-arrayHeads mu m r x h, take-arrayHeads r x (omega arith), sizes-arrayHeads x)
 
 -- one entry is at most the sum
 getD-le-totalBelow : (array : List ℕ) (x s : ℕ) → x < s → getD array x 0 ≤ totalBelow array s

@@ -13,17 +13,18 @@ use Rattle.refusal.specs.declared.Refusal.{Refusal}
 use Rattle.refusal.specs.Checked.{accepted, refused}
 use Rattle.packing.proofs.Copies.{length-repeated}
 use Rattle.layers.specs.Layers.{Layer, LayerHead, size, sizes, headsOf, five}
+use Rattle.layers.specs.Answers.{arrayHeads}
+use Rattle.layers.proofs.Arrays.{getD-five}
 use Rattle.pack.specs.Pack.{Pack}
 use Rattle.placement.specs.Figure.{figureOf}
 use Rattle.placement.specs.Placement.{Placement}
 use Rattle.split.specs.Splits.{Share, Split, layerAt, namedCounts, namedSplit, shareOf}
-use Rattle.split.specs.Arrays.{arrayHeads as fiveHeads}
 use Rattle.split.specs.Table.{Limits}
-use Rattle.split.proofs.Arrays.{namedCounts-congr, getD-five}
+use Rattle.split.proofs.Arrays.{namedCounts-congr}
 use Rattle.split.proofs.Heads.{splitHeads-congr}
 use Rattle.split.proofs.Named.{namedSplit-is-split}
 use Rattle.split.proofs.NamedCounts.{length-namedCounts}
-use Rattle.split.proofs.Terms.{layerAt-arrayHeads as layerAt-fiveHeads}
+use Rattle.split.proofs.Terms.{layerAt-arrayHeads}
 use Rattle.lists.proofs.UpTo.{take-map-upTo}
 use Rattle.planner.specs.Planning.{blocksAt, placed, splitPlacement, namedPlacement, workNeeded, outputAfter, WorkAfter}
 use Rattle.planner.specs.Answers.{planAnswer}
@@ -124,14 +125,14 @@ module _ {n r : ℕ} {mu m blocks : List ℕ} {s k b work output : ℕ} (o : Ord
         order-fits .work-fits,
       )
 
-  module _ (counts : List ℕ) (chosen : counts ≡ five (namedCounts (fiveHeads mu m) s k s b)) where
-    agree : (x : ℕ) → x < s → layerAt (fiveHeads mu m) x ≡ layerAt heads x
+  module _ (counts : List ℕ) (chosen : counts ≡ five (namedCounts (arrayHeads 5 mu m) s k s b)) where
+    agree : (x : ℕ) → x < s → layerAt (arrayHeads 5 mu m) x ≡ layerAt heads x
     agree x l =
-        layerAt-fiveHeads mu m x (below-five x l)
+        layerAt-arrayHeads mu m 5 x (below-five x l)
         ∙ sym (layerAt-is n r mu m blocks x (omega (arith, order-fits .order .s-most)))
 
     counts-are : counts ≡ five (namedCounts heads s k s b)
-    counts-are = chosen ∙ ap five (namedCounts-congr (fiveHeads mu m) heads s k s b agree)
+    counts-are = chosen ∙ ap five (namedCounts-congr (arrayHeads 5 mu m) heads s k s b agree)
 
     shares-are : (x : ℕ) → x < s → leastCopies heads counts x ≡ namedSplit heads s k b x
     unfolding namedSplit

@@ -4,14 +4,11 @@ use Prim.Native.Nat.{ℕ, zero, suc, _+_, _-_, _<_}
 use native.Mathlib.Nat.{lt-suc-self}
 use native.Mathlib.Omega.{arith}
 use mathlib.Core.Path.{_≡_, refl, sym, ap, ap₂, _∙_}
-use mathlib.Core.Bool.{Bool, true, false}
+use mathlib.Core.Bool.{Bool}
 use mathlib.Core.List.{List, [], _∷_, _++_}
-use lib.ListN.{length, getD, replicate, getD-replicate, List·getD-append, List·getD-eq-default}
-use lib.Seq.{getD-take, getD-append-add}
-use lib.Dec.{ltb}
-use borrow.Author.Tests.{ltb-true, ltb-false}
+use lib.ListN.{List·getD-append, List·getD-eq-default}
 use Rattle.binomial.specs.Choose.{choose}
-use Rattle.layers.specs.Layers.{LayerHead, five}
+use Rattle.layers.specs.Layers.{LayerHead}
 use Rattle.split.specs.Splits.{layerAt, lossOf, leastLoss, bestCount, namedCounts}
 use Rattle.split.specs.Table.{termLoss}
 use Rattle.split.proofs.Congruence.{least-congr, lastLeast-congr}
@@ -54,17 +51,3 @@ module _ (a b : List LayerHead) (s k : ℕ) where
       ∙ ap (λ (l : List ℕ). l ++ (bestCount a s k x n ∷ [])) below
       ∙ ap (λ (c : ℕ). namedCounts b s k x (n - c) ++ (c ∷ [])) e
       ∙ sym (namedCounts-suc b s k x n)
-
--- a number of up to five
-pub getD-five : (l : List ℕ) (x : ℕ) → x < 5 → getD (five l) x 0 ≡ getD l x 0
-getD-five l x h = getD-take 5 (l ++ replicate 5 0) x 0 h ∙ go (ltb x (length l)) refl
-  where
-    go : (t : Bool) → ltb x (length l) ≡ t → getD (l ++ replicate 5 0) x 0 ≡ getD l x 0
-    go true e = List·getD-append l (replicate 5 0) 0 x (ltb-true x (length l) e)
-    go false e =
-        let g = ltb-false x (length l) e in
-        let q : length l + (x - length l) ≡ x = omega arith in
-        ap (λ i. getD (l ++ replicate 5 0) i 0) (sym q)
-        ∙ getD-append-add l (replicate 5 0) (x - length l) 0
-        ∙ getD-replicate 5 (x - length l) 0 0 (omega arith)
-        ∙ sym (List·getD-eq-default l 0 {n = x} g)

@@ -13,7 +13,7 @@ use Rattle.layers.specs.Layers.{LayerHead}
 use Rattle.placement.specs.Figure.{loss}
 use Rattle.split.specs.declared.Steps.{Steps}
 use Rattle.split.specs.Splits.{layerAt, copiesFor, noSplit, lossOf}
-use Rattle.split.specs.Arrays.{arrayHeads}
+use Rattle.layers.specs.Answers.{arrayHeads}
 use Rattle.split.specs.Table.{LossTerms, termsOf, termLoss, stepsOf, stepLoss}
 use Rattle.split.proofs.LossOf.{refused-test, blocks-test, no-record-test}
 
@@ -59,6 +59,5 @@ module _ (t : LossTerms) where
       go (inl e) (inr p) = termLoss-no-blocks c e p ∙ rw (stepsOf-no-blocks e) (omega arith)
 
 -- the array's numbers are those of the layers
-pub layerAt-arrayHeads : (mu m : List ℕ) (x : ℕ) → x < 5 → layerAt (arrayHeads mu m) x ≡ record { bound = getD mu x 0; size = getD m x 0 }
-unfolding arrayHeads
-layerAt-arrayHeads mu m x h = getD-map-upTo (λ y. record { bound = getD mu y 0; size = getD m y 0 }) 5 x _ h
+pub layerAt-arrayHeads : (mu m : List ℕ) (n x : ℕ) → x < n → layerAt (arrayHeads n mu m) x ≡ record { bound = getD mu x 0; size = getD m x 0 }
+layerAt-arrayHeads mu m n x h = getD-map-upTo (λ y. record { bound = getD mu y 0; size = getD m y 0 }) n x _ h

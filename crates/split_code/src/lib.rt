@@ -5,7 +5,7 @@ ghost use Prim.Native.Nat.{suc, _*_, _≤_};
 ghost use lib.ListN.{length, drop};
 ghost use Rattle.layers.specs.Layers.{five};
 ghost use Rattle.split.specs.Splits.{namedCounts};
-ghost use Rattle.split.specs.Arrays.{arrayHeads};
+ghost use Rattle.layers.specs.Answers.{arrayHeads};
 ghost use Rattle.split.specs.Table.{Limits};
 
 mod count;
@@ -21,7 +21,7 @@ pub fn choose_counts(
     work: &mut [u16],
 ) -> [usize; 5]
     requires { ⌜ Limits mu m s k b × (s * suc b ≤ length (now work)) ⌝ }
-    ensures counts { λ r. ⌜ r ≡ five (namedCounts (arrayHeads mu m) s k s b) ⌝ }
+    ensures counts { λ r. ⌜ r ≡ five (namedCounts (arrayHeads 5 mu m) s k s b) ⌝ }
     ensures same_length { λ _. ⌜ length (now (work .exit)) ≡ length (now (work .entry)) ⌝ }
     ensures rest { λ _. ⌜ drop (s * suc b) (now (work .exit)) ≡ drop (s * suc b) (now (work .entry)) ⌝ }
 {

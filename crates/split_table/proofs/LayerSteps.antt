@@ -13,23 +13,23 @@ use Rattle.binomial.proofs.Laws.{choose-positive, choose-lt-of-le-254}
 use Rattle.layers.specs.Layers.{LayerHead}
 use Rattle.split.specs.declared.Steps.{Steps}
 use Rattle.split.specs.Splits.{noSplit}
-use Rattle.split.specs.Arrays.{arrayHeads}
+use Rattle.layers.specs.Answers.{arrayHeads}
 use Rattle.split.specs.Table.{termsOf, stepsOf, StepLimits, Limits}
 use Rattle.split.proofs.Terms.{layerAt-arrayHeads, stepsOf-blocks, stepsOf-no-blocks}
 
 module _ (mu m : List ℕ) (s k x : ℕ) where
-  size-eq : x < 5 → termsOf (arrayHeads mu m) s k x .size ≡ getD m x 0
-  size-eq h = ap (λ (head : LayerHead). head .size) (layerAt-arrayHeads mu m x h)
+  size-eq : x < 5 → termsOf (arrayHeads 5 mu m) s k x .size ≡ getD m x 0
+  size-eq h = ap (λ (head : LayerHead). head .size) (layerAt-arrayHeads mu m 5 x h)
 
   -- the steps of layer x, without a block and with the binomials looked up
   pub steps-no-blocks : x < 5 → getD m x 0 ≡ 0
-      → _≡_ {A = Steps} (record { size = 4_096; each = noSplit; copy = noSplit; lost = 1 }) (stepsOf (termsOf (arrayHeads mu m) s k x))
-  steps-no-blocks h e = sym (stepsOf-no-blocks (termsOf (arrayHeads mu m) s k x) (size-eq h ∙ e))
+      → _≡_ {A = Steps} (record { size = 4_096; each = noSplit; copy = noSplit; lost = 1 }) (stepsOf (termsOf (arrayHeads 5 mu m) s k x))
+  steps-no-blocks h e = sym (stepsOf-no-blocks (termsOf (arrayHeads 5 mu m) s k x) (size-eq h ∙ e))
 
   pub steps-blocks : {above below : ℕ} → x < 5 → 0 < getD m x 0 → above ≡ choose k (x + 1) → below ≡ choose s (x + 1)
-      → _≡_ {A = Steps} (record { size = getD m x 0; each = 1; copy = getD mu x 0 * above; lost = below }) (stepsOf (termsOf (arrayHeads mu m) s k x))
+      → _≡_ {A = Steps} (record { size = getD m x 0; each = 1; copy = getD mu x 0 * above; lost = below }) (stepsOf (termsOf (arrayHeads 5 mu m) s k x))
   steps-blocks h p e g =
-      rw (stepsOf-blocks (termsOf (arrayHeads mu m) s k x) (rw (size-eq h) p), e, g, add-one x, layerAt-arrayHeads mu m x h) refl
+      rw (stepsOf-blocks (termsOf (arrayHeads 5 mu m) s k x) (rw (size-eq h) p), e, g, add-one x, layerAt-arrayHeads mu m 5 x h) refl
 
   -- a copy's cost fits
   pub copy-lt : (bound : ℕ) {above : ℕ} → bound ≤ 4_096 → x < 5 → k ≤ 254 → above ≡ choose k (x + 1) → bound * above < 2 ^ 46
@@ -37,13 +37,13 @@ module _ (mu m : List ℕ) (s k x : ℕ) where
       let g : above < 2 ^ 33 = rw (e, add-one x) (choose-lt-of-le-254 k (suc x) most (omega arith)) in
       lt-of-le-of-lt (mul-le-mul h (le-of-lt g)) (lit< tt)
 
-  pub steps-limits : (b : ℕ) → Limits mu m s k b → x < s → StepLimits (stepsOf (termsOf (arrayHeads mu m) s k x))
+  pub steps-limits : (b : ℕ) → Limits mu m s k b → x < s → StepLimits (stepsOf (termsOf (arrayHeads 5 mu m) s k x))
   steps-limits b limits h = go (eq-zero-or-pos (getD m x 0))
     where
       few : x < 5
       few = let g = limits .s-le in omega arith
 
-      go : (getD m x 0 ≡ 0) ⊎ (0 < getD m x 0) → StepLimits (stepsOf (termsOf (arrayHeads mu m) s k x))
+      go : (getD m x 0 ≡ 0) ⊎ (0 < getD m x 0) → StepLimits (stepsOf (termsOf (arrayHeads 5 mu m) s k x))
       go (inl e) =
           rw (← steps-no-blocks few e)
           (record {

@@ -5,7 +5,7 @@ use split::Steps;
 ghost use mathlib.Core.Path.{_≡_};
 ghost use Prim.Native.Nat.{suc, _*_, _≤_, _<_};
 ghost use lib.ListN.{length, getD};
-ghost use Rattle.split.specs.Arrays.{arrayHeads};
+ghost use Rattle.layers.specs.Answers.{arrayHeads};
 ghost use Rattle.split.specs.Table.{termsOf, stepsOf, Limits};
 ghost use Rattle.split_table.specs.Working.{Filled};
 
@@ -14,7 +14,7 @@ mod rows;
 // The steps of layer x; in a layer without a block every one costs the mark. The binomials are looked up here, once a layer.
 pub fn steps(mu: [usize; 5], m: [usize; 5], s: usize, k: usize, x: usize) -> Steps
     requires { ⌜ (x < s) × (s ≤ 5) × (s ≤ k) × (k ≤ 254) × (getD mu x 0 ≤ 4096) ⌝ }
-    ensures { λ u. ⌜ u ≡ stepsOf (termsOf (arrayHeads mu m) s k x) ⌝ }
+    ensures { λ u. ⌜ u ≡ stepsOf (termsOf (arrayHeads 5 mu m) s k x) ⌝ }
 {
     let size = m[x];
     let copy = mu[x] * binomial_table::binomial(k, x + 1);
@@ -38,7 +38,7 @@ pub fn steps(mu: [usize; 5], m: [usize; 5], s: usize, k: usize, x: usize) -> Ste
 // Writes every row: row 0, then each from the one before it.
 pub fn fill(mu: [usize; 5], m: [usize; 5], s: usize, k: usize, b: usize, work: &mut [u16])
     requires { ⌜ Limits mu m s k b × (s * suc b ≤ length (now work)) ⌝ }
-    ensures { λ _. ⌜ Filled (arrayHeads mu m) s k (suc b) s (now (work .entry)) (now (work .exit)) ⌝ }
+    ensures { λ _. ⌜ Filled (arrayHeads 5 mu m) s k (suc b) s (now (work .entry)) (now (work .exit)) ⌝ }
 {
     let w = b + 1;
     base_row(work, w);

@@ -4,7 +4,7 @@ use mathlib.Core.Path.{_≡_, _∙_}
 use lib.ListN.{length}
 use native.Mathlib.Omega.{arith}
 use borrow.Author.Needs.{needs}
-use Rattle.split.specs.Arrays.{arrayHeads}
+use Rattle.layers.specs.Answers.{arrayHeads}
 use Rattle.split.specs.Splits.{bestCount}
 use Rattle.split_table.proofs.LayerSteps.{steps-limits}
 use Rattle.split_table.proofs.Filling.{row-end, rows-fit}
@@ -14,7 +14,7 @@ use Rattle.split_code.proofs.choose_counts.Tie as tie
 
 abbrev Inv-loop : tie.InvT-loop
 Inv-loop mu m s k b work w counts₀ left₀ x₀ counts left x =
-    Chosen (arrayHeads mu m) s k b x left counts
+    Chosen (arrayHeads 5 mu m) s k b x left counts
 
 abbrev μ-loop : tie.MeasureT-loop
 μ-loop mu m s k b work w counts₀ left₀ x₀ counts left x =
@@ -32,7 +32,7 @@ sub-x c = search needs
 loop-holds : tie.Need-loop-holds Inv-loop μ-loop
 loop-holds c =
     let s = c .before .before .before .before .before in
-    chosen-none (arrayHeads (s .args .mu) (s .args .m)) (s .args .s) (s .args .k) (s .args .b) (s .pre .0 .s-pos) (s .pre .0 .s-le)
+    chosen-none (arrayHeads 5 (s .args .mu) (s .args .m)) (s .args .s) (s .args .k) (s .args .b) (s .pre .0 .s-pos) (s .pre .0 .s-le)
 
 -- in a turn the row below layer `x` ends within the working slice
 row-within : (c : tie.In-loop Inv-loop μ-loop)
@@ -77,10 +77,10 @@ best-count-requires c κs =
     let limit = s .pre .0 in
     let filled = c .before .before .before .before .before .before .before .fill .ensures in
     let limits = steps-limits (s .args .mu) (s .args .m) (s .args .s) (s .args .k) (l .x) (s .args .b) limit (l .inv .x-lt) in
-    let n = length-lentBelow (arrayHeads (s .args .mu) (s .args .m)) (s .args .s) (s .args .k) (s .args .b) (l .x) (s .args .work .now) _ filled (l .inv .x-lt) in
+    let n = length-lentBelow (arrayHeads 5 (s .args .mu) (s .args .m)) (s .args .s) (s .args .k) (s .args .b) (l .x) (s .args .work .now) _ filled (l .inv .x-lt) in
     let fits = l .inv .left-le in (
       rw (c .steps .ensures) limits,
-      rising-lentBelow (arrayHeads (s .args .mu) (s .args .m)) (s .args .s) (s .args .k) (s .args .b) (l .x) (s .args .work .now) _ filled (l .inv .x-lt),
+      rising-lentBelow (arrayHeads 5 (s .args .mu) (s .args .m)) (s .args .s) (s .args .k) (s .args .b) (l .x) (s .args .work .now) _ filled (l .inv .x-lt),
       omega arith,
       omega (arith, limit .b-le),
     )
@@ -89,12 +89,12 @@ best-count-requires c κs =
 best : (c : tie.After-best-count Inv-loop μ-loop)
     → let s = c .before .before .before .before .before .before .before .before .before .before .before in
     let l = c .before .before .before .before .before .loop in
-    c .best-count .result ≡ bestCount (arrayHeads (s .args .mu) (s .args .m)) (s .args .s) (s .args .k) (l .x) (l .left)
+    c .best-count .result ≡ bestCount (arrayHeads 5 (s .args .mu) (s .args .m)) (s .args .s) (s .args .k) (l .x) (l .left)
 best c =
     let s = c .before .before .before .before .before .before .before .before .before .before .before in
     let l = c .before .before .before .before .before .loop in
     c .best-count .ensures
-    ∙ best-lentBelow (arrayHeads (s .args .mu) (s .args .m)) (s .args .s) (s .args .k) (s .args .b) (l .x) (s .args .work .now) _
+    ∙ best-lentBelow (arrayHeads 5 (s .args .mu) (s .args .m)) (s .args .s) (s .args .k) (s .args .b) (l .x) (s .args .work .now) _
     (c .before .before .before .before .before .before .before .before .fill .ensures) (l .inv .x-lt)
     (c .before .steps .result) (l .left) (c .before .steps .ensures) (l .inv .left-le) (s .pre .0 .b-le)
 
@@ -112,7 +112,7 @@ sub-left : tie.Need-sub-left Inv-loop μ-loop
 sub-left c =
     let s = c .before .before .before .before .before .before .before .before .before .before .before in
     let l = c .before .before .before .before .before .loop in
-    best-le (arrayHeads (s .args .mu) (s .args .m)) (s .args .s) (s .args .k) (s .args .b) (l .x) (l .left) (c .best-count .result) (best c)
+    best-le (arrayHeads 5 (s .args .mu) (s .args .m)) (s .args .s) (s .args .k) (s .args .b) (l .x) (l .left) (c .best-count .result) (best c)
 
 sub-x-2 : tie.Need-sub-x-2 Inv-loop μ-loop
 sub-x-2 c = search needs
@@ -124,7 +124,7 @@ loop-again : tie.Need-loop-again Inv-loop μ-loop
 loop-again c =
     let s = c .before .before .before .before .before .before .before .before .before .before .before in
     let l = c .before .before .before .before .before .loop in
-    chosen-next (arrayHeads (s .args .mu) (s .args .m)) (s .args .s) (s .args .k) (s .args .b) (l .x) (l .left)
+    chosen-next (arrayHeads 5 (s .args .mu) (s .args .m)) (s .args .s) (s .args .k) (s .args .b) (l .x) (l .left)
     (l .counts) (c .best-count .result) (c .before .before .before .before .loop-test .taken) (s .pre .0 .s-le) (best c) (l .inv)
 
 array-write-counts-2 : tie.Need-array-write-counts-2 Inv-loop μ-loop
@@ -139,7 +139,7 @@ returns c =
     let l = c .before .loop in
     let filled = c .before .before .before .before .fill .ensures in
     let e : l .x ≡ 0 = omega arith in
-    let done = chosen-all (arrayHeads (s .args .mu) (s .args .m)) (s .args .s) (s .args .k) (s .args .b) (l .left) (l .counts)
+    let done = chosen-all (arrayHeads 5 (s .args .mu) (s .args .m)) (s .args .s) (s .args .k) (s .args .b) (l .left) (l .counts)
     (omega (arith, s .pre .0 .b-le)) (rw e at (l .inv))
     in
     (done, (filled .same-length, filled .rest))

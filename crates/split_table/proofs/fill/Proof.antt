@@ -3,7 +3,7 @@ use Prim.Native.Nat.{_+_, _*_, _≤_, _-_}
 use native.Mathlib.Numerals.{add-one}
 use mathlib.Core.Path.{_∙_}
 use lib.ListN.{length}
-use Rattle.split.specs.Arrays.{arrayHeads}
+use Rattle.layers.specs.Answers.{arrayHeads}
 use Rattle.split.proofs.TableRows.{rising-tableRow}
 use Rattle.split_table.specs.Working.{Filled}
 use Rattle.split_table.proofs.LayerSteps.{steps-limits}
@@ -15,7 +15,7 @@ use Rattle.split_table.proofs.fill.Tie as tie
 
 abbrev Inv-loop : tie.InvT-loop
 Inv-loop mu m s k b work₀ w x₀ work x =
-    (1 ≤ x) × (x ≤ s) × (s * w ≤ length work₀) × Filled (arrayHeads mu m) s k w x work₀ work
+    (1 ≤ x) × (x ≤ s) × (s * w ≤ length work₀) × Filled (arrayHeads 5 mu m) s k w x work₀ work
 
 abbrev μ-loop : tie.MeasureT-loop
 μ-loop mu m s k b work₀ w x₀ work x =
@@ -30,11 +30,11 @@ base-row-requires c κs = let s = c .before .before in row-fits (s .args .s) (s 
 -- where the loop begins row 0 is filled
 base-filled : (c : tie.After-slice-known2 Inv-loop μ-loop)
     → let s = c .before .before .before .before .before in
-    Filled (arrayHeads (s .args .mu) (s .args .m)) (s .args .s) (s .args .k) (s .args .b + 1) 1 (s .args .work .now) (c .before .before .base-row .last .0)
+    Filled (arrayHeads 5 (s .args .mu) (s .args .m)) (s .args .s) (s .args .k) (s .args .b + 1) 1 (s .args .work .now) (c .before .before .base-row .last .0)
 base-filled c =
     let s = c .before .before .before .before .before in
     rw (c .before .before .base-row .ensures)
-    (filled-base (arrayHeads (s .args .mu) (s .args .m)) (s .args .s) (s .args .k) (s .args .b + 1) (s .args .work .now)
+    (filled-base (arrayHeads 5 (s .args .mu) (s .args .m)) (s .args .s) (s .args .k) (s .args .b + 1) (s .args .work .now)
     (rows-fit (s .args .s) (s .args .b) _ (s .pre .1)) (s .pre .0 .s-pos))
 
 loop-holds : tie.Need-loop-holds Inv-loop μ-loop
@@ -67,7 +67,7 @@ raise-row-requires c κs =
     let l = c .before .before .before .loop in
     let limit = s .pre .0 in
     let turn = c .before .before .loop-test .taken in
-    let heads = arrayHeads (s .args .mu) (s .args .m) in
+    let heads = arrayHeads 5 (s .args .mu) (s .args .m) in
     let limits = steps-limits (s .args .mu) (s .args .m) (s .args .s) (s .args .k) (l .x - 1) (s .args .b) limit (omega arith) in
     let h = row-end (s .args .s) (s .args .b + 1) (l .x) turn in
     let same = l .inv .3 .same-length in
@@ -88,7 +88,7 @@ loop-again c =
     let s = c .before .before .before .before .before .before .before .before .before .before .before .before in
     let l = c .before .before .before .before .before .before .loop in
     let turn = c .before .before .before .before .before .loop-test .taken in
-    let heads = arrayHeads (s .args .mu) (s .args .m) in
+    let heads = arrayHeads 5 (s .args .mu) (s .args .m) in
     let u = c .before .before .before .steps in
     let limit = s .pre .0 in
     let limits = steps-limits (s .args .mu) (s .args .m) (s .args .s) (s .args .k) (l .x - 1) (s .args .b) limit (omega arith) in
@@ -104,7 +104,7 @@ returns : tie.Need-returns Inv-loop μ-loop
 returns c =
     let s = c .before .before .before .before .before .before .before in
     let l = c .before .loop in
-    rw (← add-one) (filled-since _ _ _ _ 1 (l .x) (s .args .work .now) _ (l .work) (base-filled (c .before .before)) (l .inv .3) (omega arith))
+    rw (← add-one (s .args .b)) (filled-since _ _ _ _ 1 (l .x) (s .args .work .now) _ (l .work) (base-filled (c .before .before)) (l .inv .3) (omega arith))
 
 pub fill-spec : {M : Type 1} → statement M
 fill-spec =
