@@ -1,5 +1,4 @@
 pub mod Lengths
-pub mod Lists
 pub mod NumbersRead
 pub mod Heads
 pub mod Layouts

@@ -8,7 +8,7 @@ use lib.Seq.{slice, slice-empty}
 use Rattle.refusal.specs.Checked.{accepted}
 use Rattle.number.specs.Numbers.{Bytes, Forms, readNumber}
 use Rattle.number.proofs.Reading.{form-read, read-form, read-next}
-use Rattle.layers.proofs.Lists.{slice-append}
+use Rattle.lists.proofs.Prefixes.{slice-append}
 
 -- the numbers are read one after another, the first at `at`, and the place after the last is `end`
 abbrev pub Reads : List ℕ → List ℕ → (at end : ℕ) → Type 0

@@ -11,3 +11,5 @@ pub mod Writing
 pub mod Largest
 pub mod Stores
 pub mod Totals
+pub mod Prefixes
+pub mod AnyUpTo

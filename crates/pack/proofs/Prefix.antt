@@ -6,7 +6,7 @@ use mathlib.Core.List.{List}
 use lib.ListN.{length, take}
 use Rattle.refusal.proofs.Checked.{bind-congr}
 use Rattle.number.proofs.Within.{read-of-readWithin}
-use Rattle.layers.proofs.Lists.{take-elim}
+use Rattle.lists.proofs.Prefixes.{take-elim}
 use Rattle.layers.proofs.Prefix.{readKind-next, readWithin-next, readKind-take, readWithin-take, readLayers-take, layers-take}
 use Rattle.pack.specs.Pack.{packLayerLimits, checkPack}
 

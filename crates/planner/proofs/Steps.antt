@@ -1,16 +1,15 @@
 -- The steps of planning: when each check refuses, what they accept, and that they make up planning. Assumes nothing.
-use Prim.Native.Nat.{ℕ, zero, suc, _+_, _*_, _≤_, _<_}
+use Prim.Native.Nat.{ℕ, suc, _+_, _*_, _≤_, _<_}
 use native.Mathlib.Numerals.{add-one}
-use native.Mathlib.Nat.{not-suc-le-zero, eq-or-lt-of-le, le-of-suc-le-suc}
 use mathlib.Core.Path.{_≡_, refl, sym, _∙_, ap}
-use mathlib.Core.Logic.{_⊎_, inl, inr}
-use mathlib.Core.Bool.{Bool, true, false, _&&_, _||_, and-eq-true-iff, or-false, or-true, or-assoc}
-use mathlib.Core.List.{List, [], _∷_, _++_, map}
+use mathlib.Core.Bool.{Bool, true, false, _&&_, and-eq-true-iff}
+use mathlib.Core.List.{List, []}
 use lib.ListN.{getD}
 use lib.Dec.{T, leb, ltb}
 use borrow.Author.Tests.{le-leb, lt-leb, lt-ltb, le-ltb, leb-true, ltb-true}
 use Rattle.lists.specs.Lists.{any, upTo}
 use Rattle.lists.proofs.Tests.{T-true}
+use Rattle.lists.proofs.Finds.{any-map}
 use Rattle.refusal.specs.declared.Refusal.{Refusal}
 use Rattle.refusal.specs.declared.Refusal.the-variants.{BadOrder, NoBlock, ShortWork, ShortOutput}
 use Rattle.refusal.specs.Checked.{Checked, accepted, refused, _>>=_}
@@ -145,38 +144,6 @@ orderAnswer-good (refused why) e = cc
 pub orderAnswer-refused : (m : Checked Unit) {why : Refusal} → Refused why ≡ orderAnswer m → m ≡ refused why
 orderAnswer-refused (accepted u) e = cc
 orderAnswer-refused (refused why) e = cc
-
--- some element, one element at a time
-module _ {A : Type 0} (f : A → Bool) where
-  any-snoc : (l : List A) (a : A) → any f (l ++ (a ∷ [])) ≡ (any f l || f a)
-  unfolding any
-  any-snoc [] a = or-false (f a)
-  any-snoc (b ∷ l) a = rw (any-snoc l a) (sym (or-assoc (f b) (any f l) (f a)))
-
-  any-map : {B : Type 0} (g : B → A) (l : List B) → any f (map g l) ≡ any (λ b. f (g b)) l
-  unfolding any
-  any-map g [] = refl
-  any-map g (b ∷ l) = ap (λ (t : Bool). f (g b) || t) (any-map g l)
-
-module _ (f : ℕ → Bool) where
-  any-upTo-suc : (x : ℕ) → any f (upTo (suc x)) ≡ (any f (upTo x) || f x)
-  unfolding upTo
-  any-upTo-suc x = any-snoc f (upTo x) x
-
-  pub any-upTo-none : any f (upTo 0) ≡ false
-  unfolding any upTo
-  any-upTo-none = refl
-
-  pub any-upTo-next : (x : ℕ) → any f (upTo x) ≡ false → f x ≡ false → any f (upTo (suc x)) ≡ false
-  any-upTo-next x e h = any-upTo-suc x ∙ rw (e, h)
-
-  pub any-upTo-some : (x n : ℕ) → x < n → f x ≡ true → any f (upTo n) ≡ true
-  any-upTo-some x zero h e = absurd (not-suc-le-zero h)
-  any-upTo-some x (suc n) h e = any-upTo-suc n ∙ go (eq-or-lt-of-le (le-of-suc-le-suc h)) (any-upTo-some x n)
-    where
-      go : (x ≡ n) ⊎ (x < n) → (x < n → f x ≡ true → any f (upTo n) ≡ true) → (any f (upTo n) || f n) ≡ true
-      go (inl p) ih = rw (← p, e) (or-true (any f (upTo x)))
-      go (inr l) ih = rw (ih l e)
 
 -- the code looks at the array m alone
 pub hasBlock-array : (n r : ℕ) (mu m blocks : List ℕ) (s : ℕ) → s ≤ r

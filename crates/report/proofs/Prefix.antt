@@ -6,7 +6,7 @@ use mathlib.Core.List.{List}
 use lib.ListN.{length, take, drop}
 use Rattle.refusal.proofs.Checked.{bind-congr}
 use Rattle.lists.proofs.Parts.{slice-eq-take-drop}
-use Rattle.layers.proofs.Lists.{take-elim}
+use Rattle.lists.proofs.Prefixes.{take-elim}
 use Rattle.pack.proofs.Prefix.{checkPack-take}
 use Rattle.placement.proofs.Prefix.{checkPlacement-buffer}
 use Rattle.planner.specs.Planning.{planned}

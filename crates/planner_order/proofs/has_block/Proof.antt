@@ -8,7 +8,7 @@ use lib.ListN.{getD}
 use lib.Dec.{ltb}
 use borrow.Author.Tests.{lt-ltb, le-ltb}
 use Rattle.lists.specs.Lists.{any, upTo}
-use Rattle.planner.proofs.Steps.{any-upTo-none, any-upTo-next, any-upTo-some}
+use Rattle.lists.proofs.AnyUpTo.{any-upTo-none, any-upTo-next, any-upTo-some}
 use borrow.Author.Needs.{needs}
 use Rattle.planner_order.proofs.has_block.Statement.{statement}
 use Rattle.planner_order.proofs.has_block.Tie as tie

@@ -1,4 +1,4 @@
--- General laws of lists that the laws of layers use. Assumes nothing.
+-- Parts of a list side by side, and what looks only at its first elements. Assumes nothing.
 use Prim.Native.Nat.{ℕ, _+_, _-_, _≤_}
 use native.Mathlib.Omega.{arith}
 use mathlib.Core.Path.{_≡_, refl, _∙_, ap}
@@ -8,7 +8,6 @@ use lib.ListN.{length, take, drop}
 use lib.Dec.{leb}
 use borrow.Author.Tests.{leb-true, leb-false}
 use lib.Seq.{slice, take-add, take-all, drop-append-le, drop-at, length-take-le}
-use Rattle.lists.specs.Lists.{All}
 
 module _ {A : Type 0} where
   -- the elements from a to c are those from a to b and those from b to c
