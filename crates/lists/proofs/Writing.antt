@@ -1,10 +1,10 @@
 -- Lists that are written: from the front, element by element, and a part at a place. Assumes nothing.
-use Prim.Native.Nat.{ℕ, suc, _+_, _-_, _≤_, _<_}
+use Prim.Native.Nat.{ℕ, suc, _+_, _-_, _<_}
 use native.Mathlib.Nat.{le-of-lt, le-of-eq}
 use native.Mathlib.Numerals.{add-one}
 use native.Mathlib.Omega.{arith}
-use mathlib.Core.Path.{_≡_, sym, ap, ap₂, _∙_}
-use mathlib.Core.List.{List, [], _∷_, _++_, append-assoc, append-nil}
+use mathlib.Core.Path.{_≡_, sym, ap, _∙_}
+use mathlib.Core.List.{List, _∷_, _++_, append-assoc, append-nil}
 use lib.ListN.{length, getD, take, drop, set, length-drop, drop-of-length-le}
 use lib.Seq.{set-at, append-snoc, take-suc, take-suc-set, take-all, take-at, drop-at, drop-cons, drop-drop, length-take-le}
 
@@ -14,10 +14,6 @@ module _ {A : Type 0} where
       → take k l ++ m ≡ whole → take k′ (set l k a) ++ rest ≡ whole
   put-next l k k′ a {m} {rest} h k≡ m≡ e =
       rw (k≡, take-suc-set l k a h) (append-snoc (take k l) a rest ∙ ap (λ (t : List A). take k l ++ t) (sym m≡) ∙ e)
-
-  -- a list that is written to its end is the whole
-  pub put-all : (l : List A) (k : ℕ) {m whole : List A} → length l ≤ k → m ≡ [] → take k l ++ m ≡ whole → l ≡ whole
-  put-all l k h m≡ e = sym (append-nil l) ∙ ap₂ _++_ (sym (take-all k l h)) (sym m≡) ∙ e
 
   -- one element more of s is copied to the front of d
   pub set-take-append-drop : (s d : List A) (j : ℕ) (z : A) → j < length s → j < length d

@@ -46,10 +46,6 @@ module _ (x bound : ℕ) (rows : List (List ℕ)) where
         crowds = ltb→lt bound (together rows (p .element)) (p .passes);
       }
 
-  -- "holds such a set": of a row in order
-  pub crowded-meaning : (n r : ℕ) (row : List ℕ) → Row n r row → T (crowded x bound rows row) ↔ CrowdedSet x bound rows row
-  crowded-meaning n r row h = (set-of-crowded row (row-distinct n r row h), crowded-of-set row)
-
   -- a set that stands in more than `bound` rows is a crowded set of one of them
   crowded-row : (nodes : List ℕ) → length nodes ≡ suc x → T (distinct nodes) → bound < together rows nodes → Passing (crowded x bound rows) rows
   unfolding together
