@@ -1,21 +1,19 @@
 -- Nodes are counted and not linked: as many tails come after a node at most as it is counted. Assumes nothing.
-use Prim.Native.Nat.{ℕ, zero, suc, _+_, _-_, _*_, _/_, _≤_, _<_}
+use Prim.Native.Nat.{ℕ, zero, suc, _+_, _-_, _/_, _≤_, _<_}
 use mathlib.Core.Path.{_≡_, refl, sym, ap, subst, _∙_}
 use mathlib.Core.Bool.{Bool, true, false, cond, _||_}
 use mathlib.Core.List.{List, [], _∷_}
-use native.Mathlib.Nat.{zero-add, add-zero, suc-add}
 use native.Mathlib.Numerals.{add-one}
 use native.Mathlib.Omega.{arith}
-use lib.ListN.{length, getD, set, drop, length-map}
-use lib.Seq.{getD-set-same, getD-set-other, drop-drop}
+use lib.ListN.{length, getD, set, length-map}
+use lib.Seq.{getD-set-same, getD-set-other}
 use lib.Dec.{leb, eqb}
 use borrow.Author.Tests.{eqb-true, eqb-false}
 use Rattle.lists.specs.Lists.{tally}
 use Rattle.lists.proofs.Tests.{T-true, true-T, and-left}
-use Rattle.lists.proofs.Counts.{tally-le-suc, tally-add}
-use Rattle.packing.specs.Rows.{member, rowsAt}
-use Rattle.packing.proofs.RowsAt.{length-rowsAt}
-use Rattle.crowding.specs.Tails.{Tail, past, leaves, tailsAfter, rowTails}
+use Rattle.lists.proofs.Counts.{tally-le-suc}
+use Rattle.packing.specs.Rows.{member}
+use Rattle.crowding.specs.Tails.{Tail, past, leaves, tailsAfter}
 use Rattle.crowding.proofs.TailsFew.{length-after-le}
 use Rattle.crowding.specs.Chains.{rowEnd, tailAt, tailsAt, follow, hits, AfterAtMost}
 use Rattle.crowding.proofs.Follow.{length-follow, follow-next}
@@ -118,35 +116,7 @@ module _ (r : ℕ) (rows : List ℕ) (n : ℕ) (next : List ℕ) (p v : ℕ) whe
   unfolding follow tailsAfter
   chain-end e = rw e
 
--- all the rows at once
-hits-add : (rows : List ℕ) (v n m f : ℕ) → hits rows v f (n + m) ≡ hits rows v f n + hits rows v (f + n) m
-unfolding hits
-hits-add rows v zero m f = rw (zero-add m, add-zero f, zero-add (hits rows v f m))
-hits-add rows v (suc n) m f =
-    let e : suc f + n ≡ f + suc n = omega arith in
-    rw (suc-add n m, hits-add rows v n m (suc f), e) (sym (tally-add (eqb v (getD rows f 0)) (hits rows v (suc f) n) (hits rows v (f + suc n) m)))
-
-pub rows-hits : (rows : List ℕ) (v r c i start : ℕ) → start + c * r ≤ length rows
-    → length (tailsAfter 0 v (rowTails i (rowsAt r c (drop start rows))) []) ≤ hits rows v start (c * r)
-unfolding rowsAt rowTails tailsAfter
-rows-hits rows v r zero i start h = omega arith
-rows-hits rows v r (suc c) i start h =
-    let e : suc c * r ≡ r + c * r = omega arith in
-    let later = rows-hits rows v r c (suc i) (start + r) (omega arith) in
-    let all = hits-add rows v r (c * r) start in
-    let here = after-hits rows v i start r (omega arith) (rowTails (suc i) (rowsAt r c (drop r (drop start rows)))) in
-    rw e (omega (arith, here, rw (← drop-drop r start rows) at later, all))
-
 -- never more tails than before
-length-row-tails : (i : ℕ) (rows : List (List ℕ)) → length (rowTails i rows) ≡ length rows
-unfolding rowTails
-length-row-tails i [] = refl
-length-row-tails i (row ∷ rows) = ap suc (length-row-tails (suc i) rows)
-
-pub rows-after : (w r c : ℕ) (rows : List ℕ) → AfterAtMost w c (rowTails 0 (rowsAt r c rows))
-rows-after w r c rows v =
-    omega (arith, length-after-le w v (rowTails 0 (rowsAt r c rows)) [], length-row-tails 0 (rowsAt r c rows), length-rowsAt r c rows)
-
 pub length-tails : (r : ℕ) (rows : List ℕ) (n : ℕ) (next : List ℕ) (p : ℕ) → length (tailsAt r rows (follow n next p)) ≡ n
 length-tails r rows n next p = length-map (follow n next p) (tailAt r rows) ∙ length-follow n next p
 

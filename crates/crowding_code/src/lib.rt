@@ -3,6 +3,7 @@ use packing::Record;
 use packing::RowFound;
 ghost use mathlib.Core.Path.{_≡_};
 ghost use Prim.Native.Nat.{suc, _+_, _*_, _≤_, _<_, min};
+ghost use mathlib.Core.Option.{none};
 ghost use lib.Dec.{T};
 ghost use lib.ListN.{length, getD};
 ghost use Rattle.lists.specs.Lists.{All};
@@ -153,14 +154,23 @@ fn least_crowded(rows: &[u8], c: usize, r: usize, x: usize, bound: usize, next: 
     requires order { ⌜ Ascends r (now rows) ⌝ }
     ensures { λ n. ⌜ n ≡ lowestCrowded (suc x) bound (rowTails 0 (rowsAt r c (now (rows .entry)))) 65536 ⌝ }
 {
-    if crowding_counting::most_in_rows(rows, c, r, x) as usize <= bound {
-        return 65536;
-    }
     let mut heads = [0u16; 256];
     let mut counts = [0u16; 256];
     crowding_linking::link_rows(rows, c, r, x, &mut heads, &mut counts, next);
     let high = highest(rows) as usize + 1;
     children(rows, r, x, bound, high, &heads, &counts, 0, next, 65536)
+}
+
+// For sets of one node: whether no node stands in more than `bound` of the rows, by one count of the bytes.
+fn few_loads(rows: &[u8], c: usize, r: usize, x: usize, bound: usize) -> bool
+    requires { ⌜ c * r ≤ length (now rows) ⌝ }
+    requires order { ⌜ All (λ row. T (ascending 0 row)) (rowsAt r c (now rows)) ⌝ }
+    ensures { λ few. ⌜ (T few → firstCrowded x bound (rowsAt r c (now (rows .entry))) ≡ none) ⌝ }
+{
+    if x != 0 {
+        return false;
+    }
+    rows_load::most_load(rows, c, r, 256) <= bound
 }
 
 // Refusal 7 of a layer: the first of c rows of r bytes, all ascending, that holds x+1 nodes which stand together in
@@ -171,6 +181,9 @@ pub fn first_crowded(rows: &[u8], c: usize, r: usize, x: usize, bound: usize) ->
     ensures { λ found. ⌜ found ≡ rowFound (firstCrowded x bound (rowsAt r c (now (rows .entry)))) ⌝ }
 {
     if c <= bound {
+        return RowFound::Nothing;
+    }
+    if few_loads(rows, c, r, x, bound) {
         return RowFound::Nothing;
     }
     let mut next = [0u16; 20480];

@@ -3,8 +3,6 @@ ghost use mathlib.Core.Path.{_≡_};
 ghost use Prim.Native.Nat.{_*_, _-_, _≤_, _<_};
 ghost use lib.ListN.{length};
 ghost use Rattle.lists.specs.Lists.{All};
-ghost use Rattle.packing.specs.Rows.{rowsAt};
-ghost use Rattle.crowding.specs.Tails.{rowTails};
 ghost use Rattle.crowding.specs.Chains.{rowEnd, tailsAt, follow, AtMost, Counted, AfterAtMost};
 
 // Counts the nodes of the positions from `from` to `to`; no count is larger than the result.
@@ -63,16 +61,4 @@ pub fn most_after(rows: &[u8], r: usize, w: usize, head: u16, count: u16, next: 
     }
     let mut counts = [0u16; 256];
     count_tails(rows, r, head, count, next, &mut counts)
-}
-
-// The same of the rows and the nodes in them that leave w nodes.
-pub fn most_in_rows(rows: &[u8], c: usize, r: usize, w: usize) -> u16
-    requires { ⌜ (c ≤ 4096) × (r ≤ 5) × (length (now rows) ≡ c * r) ⌝ }
-    ensures { λ m. ⌜ AfterAtMost w m (rowTails 0 (rowsAt r c (now (rows .entry)))) ⌝ }
-{
-    if w != 0 {
-        return c as u16;
-    }
-    let mut counts = [0u16; 256];
-    count_nodes(rows, 0, rows.len(), &mut counts, 0)
 }

@@ -1,9 +1,10 @@
--- `crowding_code::first_crowded` meets its contract: few rows need no test, and else the least row number is the answer.
+-- `crowding_code::first_crowded` meets its contract: few rows need no test, nor do few rows with a node, and else the least row number is the answer.
 -- Assumes nothing.
 use Prim.Native.Nat.{_<_}
 use mathlib.Core.Path.{sym, ap}
 use lib.ListN.{length}
 use lib.Dec.{lit≤}
+use Rattle.lists.proofs.Tests.{T-true}
 use Rattle.packing.specs.Rows.{rowsAt, firstCrowded}
 use Rattle.packing.specs.Answers.{rowFound}
 use Rattle.packing.proofs.RowsAt.{length-rowsAt}
@@ -19,6 +20,14 @@ returns c =
     let g = c .before .before .args in
     sym (ap rowFound (first-none-of-few (g .x) (g .bound) (rowsAt (g .r) (g .c) (g .rows .now))
     (omega (arith, length-rowsAt (g .r) (g .c) (g .rows .now), c .if1 .taken))))
+
+few-loads-requires : tie.Need-few-loads-requires
+few-loads-requires c κs =
+    let pre = c .before .before .pre in
+    (pre .0 .3, pre .1)
+
+returns-2 : tie.Need-returns-2
+returns-2 c = sym (ap rowFound (c .before .few-loads .ensures (T-true (c .if2 .taken))))
 
 mul-end : tie.Need-mul-end
 mul-end c = search needs
@@ -37,32 +46,32 @@ slice-aggregate-least-crowded c = search needs
 
 least-crowded-requires : tie.Need-least-crowded-requires
 least-crowded-requires c κs =
-    let g = c .before .before .before .before .args in
-    let pre = c .before .before .before .before .pre in
+    let g = c .before .before .before .before .before .before .args in
+    let pre = c .before .before .before .before .before .before .pre in
     let pos : 0 < g .r = omega (arith, pre .0) in (
       (pre .0 .0, pre .0 .1, pre .0 .2, length-taken (g .r) (g .c) (g .rows .now) (pre .0 .3), lit≤ tt),
       taken-ascends (g .r) (g .c) (g .rows .now) (pre .0 .3) (pre .1) pos,
     )
 
-returns-2 : tie.Need-returns-2
-returns-2 c =
-    let g = c .before .before .before .before .before .before .before .args in
-    let pre = c .before .before .before .before .before .before .before .pre in
-    let rows = rowsAt (g .r) (g .c) (g .rows .now) in
-    let n = c .before .before .least-crowded .result in
-    let first = taken-first (g .r) (g .c) (g .rows .now) (pre .0 .3) (pre .1) (g .x) (g .bound) n (omega (arith, pre .0))
-    (λ i. c .before .before .before .before .before .before .shared-slice-known .given i .fits) (c .before .before .least-crowded .ensures) in
-    found-row n (firstCrowded (g .x) (g .bound) rows) first (c .if2 .taken)
-
 returns-3 : tie.Need-returns-3
 returns-3 c =
-    let g = c .before .before .before .before .before .before .before .args in
-    let pre = c .before .before .before .before .before .before .before .pre in
+    let g = c .before .before .before .before .before .before .before .before .before .args in
+    let pre = c .before .before .before .before .before .before .before .before .before .pre in
     let rows = rowsAt (g .r) (g .c) (g .rows .now) in
     let n = c .before .before .least-crowded .result in
     let first = taken-first (g .r) (g .c) (g .rows .now) (pre .0 .3) (pre .1) (g .x) (g .bound) n (omega (arith, pre .0))
-    (λ i. c .before .before .before .before .before .before .shared-slice-known .given i .fits) (c .before .before .least-crowded .ensures) in
-    found-none n (length rows) (firstCrowded (g .x) (g .bound) rows) first (c .if2 .left) (first-crowded-below (g .x) (g .bound) rows)
+    (λ i. c .before .before .before .before .before .before .before .before .shared-slice-known .given i .fits) (c .before .before .least-crowded .ensures) in
+    found-row n (firstCrowded (g .x) (g .bound) rows) first (c .if3 .taken)
+
+returns-4 : tie.Need-returns-4
+returns-4 c =
+    let g = c .before .before .before .before .before .before .before .before .before .args in
+    let pre = c .before .before .before .before .before .before .before .before .before .pre in
+    let rows = rowsAt (g .r) (g .c) (g .rows .now) in
+    let n = c .before .before .least-crowded .result in
+    let first = taken-first (g .r) (g .c) (g .rows .now) (pre .0 .3) (pre .1) (g .x) (g .bound) n (omega (arith, pre .0))
+    (λ i. c .before .before .before .before .before .before .before .before .shared-slice-known .given i .fits) (c .before .before .least-crowded .ensures) in
+    found-none n (length rows) (firstCrowded (g .x) (g .bound) rows) first (c .if3 .left) (first-crowded-below (g .x) (g .bound) rows)
     (omega (arith, length-rowsAt (g .r) (g .c) (g .rows .now), pre .0))
 
 pub first-crowded-spec : {M : Type 1} → statement M
@@ -70,11 +79,13 @@ first-crowded-spec =
     tie.close
     (tie.spec
     returns
+    few-loads-requires
+    returns-2
     mul-end
     sub-least-crowded
     part-least-crowded-start
     part-least-crowded-end
     slice-aggregate-least-crowded
     least-crowded-requires
-    returns-2
-    returns-3)
+    returns-3
+    returns-4)

@@ -5,25 +5,11 @@ use native.Mathlib.Nat.{mul-le-mul}
 use Rattle.packing.specs.Rows.{rowsAt}
 use Rattle.crowding.specs.Tails.{rowTails}
 use Rattle.crowding.proofs.Follow.{at-most-zero}
-use Rattle.crowding_code.proofs.Visits.{after-few, grown-lowest}
+use Rattle.crowding_code.proofs.Visits.{grown-lowest}
 use native.Mathlib.Omega.{arith}
 use borrow.Author.Needs.{needs}
 use Rattle.crowding_code.proofs.least_crowded.Statement.{statement}
 use Rattle.crowding_code.proofs.least_crowded.Tie as tie
-
-most-in-rows-requires : tie.Need-most-in-rows-requires
-most-in-rows-requires c κs =
-    let pre = c .before .before .pre in
-    (pre .0 .0, pre .0 .1, pre .0 .3)
-
-cast-if1 : tie.Need-cast-if1
-cast-if1 c = search needs
-
-returns : tie.Need-returns
-returns c =
-    let g = c .before .before .before .before .args in
-    let most = c .before .most-in-rows in
-    after-few (suc (g .x)) (g .x) (g .bound) (most .result) (rowTails 0 (rowsAt (g .r) (g .c) (g .rows .now))) 65536 refl (most .ensures) (c .if1 .taken)
 
 slice-aggregate-link-rows : tie.Need-slice-aggregate-link-rows
 slice-aggregate-link-rows c = search needs
@@ -33,8 +19,8 @@ slice-aggregate-link-rows-2 c = search needs
 
 link-rows-requires : tie.Need-link-rows-requires
 link-rows-requires c κs =
-    let g = c .before .before .before .before .before .before .before .args in
-    let pre = c .before .before .before .before .before .before .before .pre in
+    let g = c .before .before .before .before .before .args in
+    let pre = c .before .before .before .before .before .pre in
     let five = mul-le-mul {n₁ = g .c} {m₁ = g .r} {n₂ = 4096} {m₂ = 5} (pre .0 .0) (pre .0 .1) in
     ((pre .0 .2, pre .0 .1, pre .0 .0, pre .0 .3, omega (arith, five, pre .0)), ((refl, refl, at-most-zero 256), pre .1))
 
@@ -55,8 +41,8 @@ slice-aggregate-children-2 c = search needs
 
 children-requires : tie.Need-children-requires
 children-requires c κs =
-    let g = c .before .before .before .before .before .before .before .before .before .before .before .before .before .before .before .before .args in
-    let pre = c .before .before .before .before .before .before .before .before .before .before .before .before .before .before .before .before .pre in
+    let g = c .before .before .before .before .before .before .before .before .before .before .before .before .before .before .args in
+    let pre = c .before .before .before .before .before .before .before .before .before .before .before .before .before .before .pre in
     let five = mul-le-mul {n₁ = g .c} {m₁ = g .r} {n₂ = 4096} {m₂ = 5} (pre .0 .0) (pre .0 .1) in
     let linked = c .before .before .before .before .before .before .before .before .link-rows in
     let heads = linked .last .1 .1 .1 .1 .0 in
@@ -72,9 +58,9 @@ children-requires c κs =
 same-length : tie.Need-same-length
 same-length c = search needs
 
-returns-2 : tie.Need-returns-2
-returns-2 c =
-    let g = c .before .before .before .before .before .before .before .before .before .before .before .before .before .before .before .before .before .before .before .args in
+returns : tie.Need-returns
+returns c =
+    let g = c .before .before .before .before .before .before .before .before .before .before .before .before .before .before .before .before .before .args in
     let linked = c .before .before .before .before .before .before .before .before .before .before .before .link-rows in
     let heads = linked .last .1 .1 .1 .1 .0 in
     let counts = linked .last .1 .1 .1 .1 .1 .0 in
@@ -86,9 +72,6 @@ pub least-crowded-spec : {M : Type 1} → statement M
 least-crowded-spec =
     tie.close
     (tie.spec
-    most-in-rows-requires
-    cast-if1
-    returns
     slice-aggregate-link-rows
     slice-aggregate-link-rows-2
     link-rows-requires
@@ -99,4 +82,4 @@ least-crowded-spec =
     slice-aggregate-children-2
     children-requires
     same-length
-    returns-2)
+    returns)
