@@ -2,7 +2,7 @@
 use packing::Record;
 use packing::RowFound;
 ghost use mathlib.Core.Path.{_≡_};
-ghost use Prim.Native.Nat.{suc, _+_, _*_, _≤_, _<_, min};
+ghost use Prim.Native.Nat.{suc, _+_, _*_, _≤_, _<_};
 ghost use mathlib.Core.Option.{none};
 ghost use lib.Dec.{T};
 ghost use lib.ListN.{length, getD};
@@ -11,12 +11,6 @@ ghost use Rattle.packing.specs.Rows.{ascending, rowsAt, firstCrowded};
 ghost use Rattle.packing.specs.Answers.{rowFound};
 ghost use Rattle.crowding.specs.Tails.{lowestCrowded, rowTails};
 ghost use Rattle.crowding.specs.Chains.{tailsAt, follow, lowestAt, Chained, Ascends, NodesBelow, AtMost, EmptyBelow, AllChained, KeptTo, lowestChild, KeptBelow};
-
-fn lesser(a: usize, b: usize) -> usize
-    ensures { λ r. ⌜ r ≡ min a b ⌝ }
-{
-    if a <= b { a } else { b }
-}
 
 fn higher(a: u8, b: u8) -> u8
     ensures { λ r. ⌜ (a ≤ r) × (b ≤ r) ⌝ }
@@ -46,7 +40,7 @@ fn lowest(r: usize, head: u16, count: u16, next: &[u16], least: usize) -> usize
     let mut n = count;
     let mut low = least;
     while n > 0 {
-        low = lesser(low, p / r);
+        low = minmax::smaller(low, p / r);
         p = next[p] as usize;
         n -= 1;
     }

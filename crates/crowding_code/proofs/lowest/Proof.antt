@@ -21,11 +21,11 @@ abbrev μ-loop : tie.MeasureT-loop
 loop-holds : tie.Need-loop-holds Inv-loop μ-loop
 loop-holds c = search needs
 
-div-lesser : tie.Need-div-lesser Inv-loop μ-loop
-div-lesser c = search needs
+div-smaller : tie.Need-div-smaller Inv-loop μ-loop
+div-smaller c = search needs
 
-lesser-requires : tie.Need-lesser-requires Inv-loop μ-loop
-lesser-requires c κs = search needs
+smaller-requires : tie.Need-smaller-requires Inv-loop μ-loop
+smaller-requires c κs = search needs
 
 mul-p : tie.Need-mul-p Inv-loop μ-loop
 mul-p c =
@@ -50,7 +50,7 @@ loop-again c =
     let l = c .before .before .before .loop in
     let g = c .before .before .before .before .before .args in (
       all-follow (λ q. q < length (c .before .before .before .before .before .args .next .now)) (c .before .before .before .loop .n) (c .before .before .before .before .before .args .next .now) (c .before .before .before .loop .p) (c .before .before .loop-test .taken) (c .before .before .before .loop .inv .0) .1,
-      ap (λ (low : ℕ). lowestAt (g .r) low (follow (l .n - 1) (g .next .now) (getD (g .next .now) (l .p) 0))) (c .before .lesser .ensures)
+      ap (λ (low : ℕ). lowestAt (g .r) low (follow (l .n - 1) (g .next .now) (getD (g .next .now) (l .p) 0))) (c .before .smaller .ensures)
           ∙ lowest-next (g .r) (l .n) (l .low) (g .next .now) (l .p) (c .before .before .loop-test .taken)
           ∙ l .inv .1,
     )
@@ -68,8 +68,8 @@ lowest-spec =
     Inv-loop
     μ-loop
     loop-holds
-    div-lesser
-    lesser-requires
+    div-smaller
+    smaller-requires
     mul-p
     shared-slice-read-p
     cast-p
