@@ -9,3 +9,4 @@ pub mod Follow
 pub mod Rows
 pub mod Hits
 pub mod Walks
+pub mod Order

@@ -9,7 +9,7 @@ use Rattle.packing.specs.Rows.{rowsAt, firstCrowded}
 use Rattle.packing.specs.Answers.{rowFound}
 use Rattle.packing.proofs.RowsAt.{length-rowsAt}
 use Rattle.crowding.proofs.Crowded.{first-none-of-few, first-crowded-below, found-row, found-none}
-use Rattle.crowding_code.proofs.Order.{length-taken, taken-ascends, taken-first}
+use Rattle.crowding.proofs.Order.{length-taken, taken-ascends, taken-first}
 use native.Mathlib.Omega.{arith}
 use borrow.Author.Needs.{needs}
 use Rattle.crowding_code.proofs.first_crowded.Statement.{statement}

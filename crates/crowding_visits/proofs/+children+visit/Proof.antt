@@ -1,27 +1,27 @@
--- `crowding_code::children` and `crowding_code::visit` meet their contracts: a level has one node fewer to choose than the
+-- `crowding_visits::children` and `crowding_visits::visit` meet their contracts: a level has one node fewer to choose than the
 -- chain that it comes from. Assumes nothing.
 use mathlib.Core.Path.{_≡_, refl, _∙_}
 use lib.ListN.{length, getD}
 use Rattle.lists.proofs.Alls.{all-imp}
 use Rattle.crowding.specs.Chains.{rowEnd, tailsAt, follow, Placed}
 use Rattle.crowding.proofs.Follow.{at-most-zero}
-use Rattle.crowding_code.proofs.Visits.{ToVisit, visit-start, visit-end, visit-skip, visit-chained, visit-next, visit-last, within-next, within-rows, after-few, grown-lowest, grown-few}
+use Rattle.crowding_visits.proofs.Visits.{ToVisit, visit-start, visit-end, visit-skip, visit-chained, visit-next, visit-last, within-next, within-rows, after-few, grown-lowest, grown-few}
 use native.Mathlib.Omega.{arith}
 use borrow.Author.Needs.{needs}
 use Prim.Native.Nat.{ℕ, _+_, _*_, _-_, _≤_, _<_}
 use borrow.Fn.Kinds.{In}
 use borrow.Fn.PlainCycle.{Measures, is, falls, and}
-use Rattle.crowding_code.proofs.children.Reads as children
-use Rattle.crowding_code.proofs.children.Kinds as children-kinds
-use Rattle.crowding_code.proofs.+children+visit.Lts-children as children-lts
-use Rattle.crowding_code.proofs.visit.Reads as visit
-use Rattle.crowding_code.proofs.visit.Kinds as visit-kinds
-use Rattle.crowding_code.proofs.+children+visit.Lts-visit as visit-lts
+use Rattle.crowding_visits.proofs.children.Reads as children
+use Rattle.crowding_visits.proofs.children.Kinds as children-kinds
+use Rattle.crowding_visits.proofs.+children+visit.Lts-children as children-lts
+use Rattle.crowding_visits.proofs.visit.Reads as visit
+use Rattle.crowding_visits.proofs.visit.Kinds as visit-kinds
+use Rattle.crowding_visits.proofs.+children+visit.Lts-visit as visit-lts
 use Rattle.crowding_counting.proofs.most_after.Reads as most-after-reads
 use Rattle.crowding_linking.proofs.link_tails.Reads as link-tails-reads
-use Rattle.crowding_code.proofs.lowest.Reads as lowest-reads
-use Rattle.crowding_code.proofs.+children+visit.{statement}
-use Rattle.crowding_code.proofs.+children+visit.Tie.{close}
+use Rattle.crowding_visits.proofs.lowest.Reads as lowest-reads
+use Rattle.crowding_visits.proofs.+children+visit.{statement}
+use Rattle.crowding_visits.proofs.+children+visit.Tie.{close}
 
 abbrev μ-children : Measures 4 children-kinds.ps ℕ
 μ-children κs a = 2 * a .1 .1 .0 + 1

@@ -1,11 +1,11 @@
--- `crowding_code::highest` meets its contract: no node so far is above the present one. Assumes nothing.
+-- `crowding_visits::highest` meets its contract: no node so far is above the present one. Assumes nothing.
 use Prim.Native.Nat.{ℕ, _-_, _≤_, _<_}
 use lib.ListN.{length, getD}
-use Rattle.crowding_code.proofs.Order.{up-to-next}
+use Rattle.crowding.proofs.Order.{up-to-next}
 use native.Mathlib.Omega.{arith}
 use borrow.Author.Needs.{needs}
-use Rattle.crowding_code.proofs.highest.Statement.{statement}
-use Rattle.crowding_code.proofs.highest.Tie as tie
+use Rattle.crowding_visits.proofs.highest.Statement.{statement}
+use Rattle.crowding_visits.proofs.highest.Tie as tie
 
 abbrev Inv-loop : tie.InvT-loop
 Inv-loop rows p₀ v₀ p v =

@@ -1,15 +1,15 @@
--- `crowding_code::least_crowded` meets its contract: the rows' nodes are the first level. Assumes nothing.
+-- `crowding_visits::least_crowded` meets its contract: the rows' nodes are the first level. Assumes nothing.
 use Prim.Native.Nat.{suc}
 use mathlib.Core.Path.{refl, _∙_}
 use native.Mathlib.Nat.{mul-le-mul}
 use Rattle.packing.specs.Rows.{rowsAt}
 use Rattle.crowding.specs.Tails.{rowTails}
 use Rattle.crowding.proofs.Follow.{at-most-zero}
-use Rattle.crowding_code.proofs.Visits.{grown-lowest}
+use Rattle.crowding_visits.proofs.Visits.{grown-lowest}
 use native.Mathlib.Omega.{arith}
 use borrow.Author.Needs.{needs}
-use Rattle.crowding_code.proofs.least_crowded.Statement.{statement}
-use Rattle.crowding_code.proofs.least_crowded.Tie as tie
+use Rattle.crowding_visits.proofs.least_crowded.Statement.{statement}
+use Rattle.crowding_visits.proofs.least_crowded.Tie as tie
 
 slice-aggregate-link-rows : tie.Need-slice-aggregate-link-rows
 slice-aggregate-link-rows c = search needs
