@@ -1,12 +1,15 @@
--- The walk over document 01's placement of nine records, by computation. Assumes nothing.
+-- The walk over document 01's placement of nine records, and beside a refusal, by computation. Assumes nothing.
 use Prim.Native.Nat.{ℕ}
 use mathlib.Core.Path.{_≡_, refl, ap}
-use mathlib.Core.List.{[], _∷_, flatten}
+use mathlib.Core.Bool.{false}
+use mathlib.Core.List.{List, [], _∷_, flatten}
+use Rattle.refusal.specs.declared.Refusal.{Refusal}
 use Rattle.refusal.specs.Checked.{accepted, mapAccepted}
 use Rattle.placement.specs.SevenCabinets.{placementFile, sevenPlacement}
 use Rattle.placement.proofs.Worked.{placements}
 use Rattle.walk.specs.declared.Cursor.{Cursor}
-use Rattle.walk.specs.RowWalk.{firstRow, openWalk, stepRow, stepWalk}
+use Rattle.walk.specs.declared.WalkOpened.the-variants.{Refused}
+use Rattle.walk.specs.RowWalk.{firstRow, openWalk, hasRow, stepRow, stepWalk, openedPlace}
 
 -- the walk's place with so many rows left, nine rows of three bytes ending at byte 38
 abbrev pub nineAt : (at left : ℕ) → Cursor
@@ -27,3 +30,7 @@ pub walks : (openWalk (placementFile 5) ≡ accepted (nineAt 11 9))
 unfolding flatten placementFile sevenPlacement openWalk stepRow stepWalk
 walks =
     (ap (mapAccepted (firstRow (placementFile 5))) (placements .1), refl, refl, refl, refl, refl, refl, refl, refl, refl)
+
+-- beside a refusal no row is left, whatever the bytes
+pub refused-ends : (bytes : List ℕ) (e : Refusal) → hasRow bytes (openedPlace (Refused e)) ≡ false
+refused-ends bytes e = refl
