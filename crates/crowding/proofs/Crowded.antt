@@ -1,10 +1,9 @@
 -- The first crowded row as the code answers it; layers that need no test; rows of bytes. Assumes nothing.
-use Prim.Native.Nat.{ℕ, zero, suc, _≤_, _<_}
+use Prim.Native.Nat.{ℕ, suc, _≤_, _<_}
 use mathlib.Core.Path.{_≡_, refl}
-use mathlib.Core.Bool.{Bool, false}
+use mathlib.Core.Bool.{false}
 use mathlib.Core.List.{List, [], _∷_, map}
 use mathlib.Core.Option.{Option, none, some}
-use native.Mathlib.Nat.{not-suc-le-zero, le-of-suc-le-suc}
 use native.Mathlib.Omega.{arith}
 use lib.ListN.{length, getD}
 use lib.Dec.{T, ltb}
@@ -13,6 +12,7 @@ use Rattle.lists.specs.Lists.{All, count, every, largest, upTo}
 use Rattle.lists.proofs.Tests.{T-true, and-left, and-both}
 use Rattle.lists.proofs.Alls.{all-of, all-append, all-imp, all-map, all-both, all-every, getD-all}
 use Rattle.lists.proofs.Counts.{count-le-length, count-mono}
+use Rattle.lists.proofs.Largest.{largest-le}
 use Rattle.lists.proofs.Finds.{firstWhere-none, any-none}
 use Rattle.lists.proofs.UpTo.{length-map-upTo, getD-map-upTo}
 use Rattle.packing.specs.Rows.{ascending, inOrder, rowsAt, member, together, holds, subsets, crowded, firstCrowded}
@@ -56,13 +56,6 @@ first-none-of-few x bound rows h =
     (all-of (All (λ v. count (λ row. member v row) rows ≤ bound))
     (all-of (λ v. count (λ row. member v row) rows ≤ bound)
     (λ v. omega (arith, count-le-length (λ row. member v row) rows))) rows)
-
--- the largest is at least each
-largest-le : (l : List ℕ) (i : ℕ) → i < length l → getD l i 0 ≤ largest l
-unfolding largest
-largest-le [] i h = absurd (not-suc-le-zero h)
-largest-le (n ∷ l) zero h = omega arith
-largest-le (n ∷ l) (suc i) h = omega (arith, largest-le l i (le-of-suc-le-suc h))
 
 -- a row's number as the answer
 pub found-row : (n : ℕ) (o : Option ℕ) → n ≡ rowNumber o → n < 65536 → At (record { 0 = n }) ≡ rowFound o

@@ -1,5 +1,5 @@
--- `crowding_code::first_crowded` meets its contract: few rows need no test, nor do few rows with a node, and else the least row number is the answer.
--- Assumes nothing.
+-- `crowding_code::first_crowded` meets its contract: few rows, or few with each node, need no test, and else the least row
+-- number is the answer. Assumes nothing.
 use Prim.Native.Nat.{_<_}
 use mathlib.Core.Path.{sym, ap}
 use lib.ListN.{length}
