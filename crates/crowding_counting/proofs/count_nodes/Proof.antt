@@ -1,4 +1,4 @@
--- `counting::count_nodes` meets its contract: what is counted and what is left make the counts of all. Assumes
+-- `crowding_counting::count_nodes` meets its contract: what is counted and what is left make the counts of all. Assumes
 -- nothing.
 use Prim.Native.Nat.{ℕ, _+_, _-_, _≤_, _<_}
 use mathlib.Core.Path.{_≡_, refl, sym, _∙_}

@@ -1,4 +1,4 @@
--- `counting::count_tails` meets its contract: the counts and the tails after the chain that is left are as many as those
+-- `crowding_counting::count_tails` meets its contract: the counts and the tails after the chain that is left are as many as those
 -- of the whole chain. Assumes nothing.
 use Prim.Native.Nat.{ℕ, _+_, _*_, _-_, _≤_}
 use mathlib.Core.Path.{_≡_, sym, _∙_}

@@ -1,4 +1,4 @@
--- `counting::most_after` meets its contract. Assumes nothing.
+-- `crowding_counting::most_after` meets its contract. Assumes nothing.
 use Prim.Native.Nat.{_-_}
 use mathlib.Core.Path.{_≡_, refl}
 use Rattle.crowding.proofs.Follow.{at-most-zero}

@@ -1,4 +1,4 @@
--- `linking::link` meets its contract: the positions that are left, linked to the present chains, make the chains of
+-- `crowding_linking::link` meets its contract: the positions that are left, linked to the present chains, make the chains of
 -- all. Assumes nothing.
 use Prim.Native.Nat.{ℕ, _+_, _-_, _≤_, _<_}
 use mathlib.Core.Path.{_≡_, refl, sym, _∙_}

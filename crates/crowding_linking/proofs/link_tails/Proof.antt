@@ -1,4 +1,4 @@
--- `linking::link_tails` meets its contract: a walk along the chain. Assumes nothing.
+-- `crowding_linking::link_tails` meets its contract: a walk along the chain. Assumes nothing.
 use Prim.Native.Nat.{ℕ, _+_, _-_, _/_, _≤_, _<_}
 use mathlib.Core.Path.{_≡_, refl, sym, _∙_}
 use mathlib.Core.List.{List, []}

@@ -1,4 +1,4 @@
--- `choose_counts` meets its contract. The loop's invariant: the counts above layer `x` are chosen. Assumes nothing.
+-- `split_code::choose_counts` meets its contract. The loop's invariant: the counts above layer `x` are chosen. Assumes nothing.
 use Prim.Native.Nat.{_+_, _*_, _≤_}
 use mathlib.Core.Path.{_≡_, _∙_}
 use lib.ListN.{length}

@@ -1,4 +1,4 @@
--- `fill` meets its contract. The loop's invariant: the rows before row `x` are filled. Assumes nothing.
+-- `split_table::fill` meets its contract. The loop's invariant: the rows before row `x` are filled. Assumes nothing.
 use Prim.Native.Nat.{_+_, _*_, _≤_, _-_}
 use native.Mathlib.Numerals.{add-one}
 use mathlib.Core.Path.{_∙_}

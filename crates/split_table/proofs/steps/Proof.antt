@@ -1,4 +1,4 @@
--- `steps` meets its contract: the arrays hold the layers' numbers. Assumes nothing.
+-- `split_table::steps` meets its contract: the arrays hold the layers' numbers. Assumes nothing.
 use Rattle.split_table.proofs.LayerSteps.{steps-no-blocks, steps-blocks, copy-lt}
 use native.Mathlib.Omega.{arith}
 use borrow.Author.Needs.{needs}

@@ -1,4 +1,4 @@
--- `count::best_count` meets its contract. The loop's invariant: the counts up to `c` were looked at. Assumes nothing.
+-- `split_code::count::best_count` meets its contract. The loop's invariant: the counts up to `c` were looked at. Assumes nothing.
 use Prim.Native.Nat.{_+_, _*_, _-_, _≤_}
 use native.Mathlib.Nat.{le-mul-of-pos-right}
 use mathlib.Core.Path.{_≡_, refl, ap, _∙_}

@@ -1,4 +1,4 @@
--- `rows::base_row` meets its contract: the entries before `b` are put in. Assumes nothing.
+-- `split_table::rows::base_row` meets its contract: the entries before `b` are put in. Assumes nothing.
 use Prim.Native.Nat.{_≤_, _-_}
 use native.Mathlib.Nat.{zero-add}
 use mathlib.Core.Path.{_≡_, refl, ap, _∙_}

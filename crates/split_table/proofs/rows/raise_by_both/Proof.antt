@@ -1,4 +1,4 @@
--- `rows::raise_by_both` meets its contract. The loop's invariant: the entries before place `i` are written. Assumes nothing.
+-- `split_table::rows::raise_by_both` meets its contract. The loop's invariant: the entries before place `i` are written. Assumes nothing.
 use Prim.Native.Nat.{_≤_, _-_, _+_}
 use native.Mathlib.Nat.{le-refl}
 use mathlib.Core.Path.{_≡_, ap, _∙_}

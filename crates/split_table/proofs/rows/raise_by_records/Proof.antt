@@ -1,4 +1,4 @@
--- `rows::raise_by_records` meets its contract. The loop's invariant: the entries before place `i` are written. Assumes nothing.
+-- `split_table::rows::raise_by_records` meets its contract. The loop's invariant: the entries before place `i` are written. Assumes nothing.
 use Prim.Native.Nat.{_≤_, _-_, _+_}
 use mathlib.Core.Path.{_≡_, ap, _∙_}
 use lib.ListN.{getD}

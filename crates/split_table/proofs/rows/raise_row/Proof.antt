@@ -1,4 +1,4 @@
--- `rows::raise_row` meets its contract: where a copy is of no use, the records alone give the row. Assumes nothing.
+-- `split_table::rows::raise_row` meets its contract: where a copy is of no use, the records alone give the row. Assumes nothing.
 use Prim.Native.Nat.{_-_, _*_, _≤_, min}
 use mathlib.Core.Path.{sym, ap, _∙_}
 use Rattle.lists.proofs.UpTo.{map-upTo-congr}
