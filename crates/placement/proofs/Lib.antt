@@ -3,3 +3,4 @@ pub mod Survivors
 pub mod Accepted
 pub mod Prefix
 pub mod Worked
+pub mod Stages

@@ -14,3 +14,6 @@ pub mod Terms
 pub mod TableRows
 pub mod Stepped
 pub mod Arrays
+pub mod Parts
+pub mod Filling
+pub mod LayerSteps

@@ -1,2 +1,3 @@
 pub mod Splits
 pub mod Table
+pub mod Working

@@ -16,7 +16,7 @@ use Rattle.split.proofs.NamedCounts.{namedCounts-suc, length-namedCounts}
 use Rattle.split.proofs.Bounds.{bestCount-zero}
 use Rattle.split.proofs.TableRows.{length-tableRow, rising-tableRow, best-tableRow}
 use Rattle.split.proofs.Stepped.{lastLeast-steps}
-use Rattle.split_table.specs.Working.{part, Filled}
+use Rattle.split.specs.Working.{part, Filled}
 
 -- zeros after the first n of five
 zeros-after : (n : ℕ) → n ≤ 5 → _≡_ {A = List ℕ} (take (5 - n) (replicate 5 0)) (drop n (replicate 5 0))

@@ -1,15 +1,11 @@
 // The planner's table in the working slice: row x has the least losses of 0, .., b records in the layers below x.
-use rows::base_row;
-use rows::raise_row;
 use split::Steps;
 ghost use mathlib.Core.Path.{_≡_};
 ghost use Prim.Native.Nat.{suc, _*_, _≤_, _<_};
 ghost use lib.ListN.{length, getD};
 ghost use Rattle.layers.specs.Answers.{arrayHeads};
 ghost use Rattle.split.specs.Table.{termsOf, stepsOf, Limits};
-ghost use Rattle.split_table.specs.Working.{Filled};
-
-mod rows;
+ghost use Rattle.split.specs.Working.{Filled};
 
 // The steps of layer x; in a layer without a block every one costs the mark. The binomials are looked up here, once a layer.
 pub fn steps(mu: [usize; 5], m: [usize; 5], s: usize, k: usize, x: usize) -> Steps
@@ -41,10 +37,10 @@ pub fn fill(mu: [usize; 5], m: [usize; 5], s: usize, k: usize, b: usize, work: &
     ensures { λ _. ⌜ Filled (arrayHeads 5 mu m) s k (suc b) s (now (work .entry)) (now (work .exit)) ⌝ }
 {
     let w = b + 1;
-    base_row(work, w);
+    split_rows::base_row(work, w);
     let mut x: usize = 1;
     while x < s {
-        raise_row(work, x * w, w, steps(mu, m, s, k, x - 1));
+        split_rows::raise_row(work, x * w, w, steps(mu, m, s, k, x - 1));
         x += 1;
     }
 }

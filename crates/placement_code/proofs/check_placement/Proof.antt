@@ -6,7 +6,7 @@ use Rattle.layers.specs.Layers.{readKind}
 use Rattle.layers.proofs.Stages.{stage-refused, stage-read}
 use Rattle.placement.specs.Answers.{placementChecked}
 use Rattle.placement.specs.Stages.{afterKind}
-use Rattle.placement_code.proofs.Stages.{stages}
+use Rattle.placement.proofs.Stages.{stages}
 use Rattle.placement_code.proofs.check_placement.Statement.{statement}
 use Rattle.placement_code.proofs.check_placement.Tie as tie
 

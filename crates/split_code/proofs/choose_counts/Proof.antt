@@ -6,8 +6,8 @@ use native.Mathlib.Omega.{arith}
 use borrow.Author.Needs.{needs}
 use Rattle.layers.specs.Answers.{arrayHeads}
 use Rattle.split.specs.Splits.{bestCount}
-use Rattle.split_table.proofs.LayerSteps.{steps-limits}
-use Rattle.split_table.proofs.Filling.{row-end, rows-fit}
+use Rattle.split.proofs.LayerSteps.{steps-limits}
+use Rattle.split.proofs.Filling.{row-end, rows-fit}
 use Rattle.split_code.proofs.Choosing.{Chosen, chosen-none, chosen-next, chosen-all, best-le, rising-lentBelow, length-lentBelow, best-lentBelow}
 use Rattle.split_code.proofs.choose_counts.Statement.{statement}
 use Rattle.split_code.proofs.choose_counts.Tie as tie

@@ -5,9 +5,9 @@ use mathlib.Core.Path.{_∙_}
 use lib.ListN.{length}
 use Rattle.layers.specs.Answers.{arrayHeads}
 use Rattle.split.proofs.TableRows.{rising-tableRow}
-use Rattle.split_table.specs.Working.{Filled}
-use Rattle.split_table.proofs.LayerSteps.{steps-limits}
-use Rattle.split_table.proofs.Filling.{row-end, le-mul-row, rows-fit, row-fits, filled-base, filled-below, filled-next, filled-here, filled-since}
+use Rattle.split.specs.Working.{Filled}
+use Rattle.split.proofs.LayerSteps.{steps-limits}
+use Rattle.split.proofs.Filling.{row-end, le-mul-row, rows-fit, row-fits, filled-base, filled-below, filled-next, filled-here, filled-since}
 use native.Mathlib.Omega.{arith}
 use borrow.Author.Needs.{needs}
 use Rattle.split_table.proofs.fill.Statement.{statement}

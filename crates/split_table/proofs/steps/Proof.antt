@@ -1,5 +1,5 @@
 -- `split_table::steps` meets its contract: the arrays hold the layers' numbers. Assumes nothing.
-use Rattle.split_table.proofs.LayerSteps.{steps-no-blocks, steps-blocks, copy-lt}
+use Rattle.split.proofs.LayerSteps.{steps-no-blocks, steps-blocks, copy-lt}
 use native.Mathlib.Omega.{arith}
 use borrow.Author.Needs.{needs}
 use Rattle.split_table.proofs.steps.Statement.{statement}

@@ -5,7 +5,7 @@ use mathlib.Core.Path.{_≡_, refl, ap, _∙_}
 use lib.ListN.{getD}
 use Rattle.split.specs.Splits.{lastLeast}
 use Rattle.split.specs.Table.{stepSum}
-use Rattle.split_table.proofs.LayerSteps.{copies-lt, records-lt}
+use Rattle.split.proofs.LayerSteps.{copies-lt, records-lt}
 use Rattle.split_code.proofs.Counting.{Counted, counted-none, counted-more, counted-taken, counted-left}
 use native.Mathlib.Omega.{arith}
 use Rattle.split_code.proofs.count.best_count.Statement.{statement}

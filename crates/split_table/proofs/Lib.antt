@@ -1,4 +1,0 @@
-pub mod LayerSteps
-pub mod Parts
-pub mod Raising
-pub mod Filling
