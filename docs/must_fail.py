@@ -31,10 +31,10 @@ NAMED = {
 
 
 def parts(edit):
-    """What the wrong program does, the changed file and the first text that is replaced."""
+    """What the wrong program does, the changed file and the last text that is replaced."""
     lines = edit.read_text().splitlines()
-    find = lambda word: next(line[len(word):] for line in lines if line.startswith(word))
-    return find("# "), find("file: "), find("old: ")
+    find = lambda word: [line[len(word):] for line in lines if line.startswith(word)]
+    return find("# ")[0], find("file: ")[-1], find("old: ")[-1]
 
 
 def changed(crate, file, old):
@@ -76,8 +76,9 @@ def main():
         sys.exit(f"no such edits: {missing}")
     print("# Must-fail edits\n")
     print(f"{len(edits)} wrong programs and wrong definitions, each of which the prover must refuse; `rt ci` tries them all. Made by")
-    print("`docs/must_fail.py` from the edits and from the prover's logs. An edit keeps the code's shape, so that what is refused is")
-    print("a fact that no longer holds; the last column has the first one. `docs/DECISIONS.md` lists the edits that stand in for another.\n")
+    print("`docs/must_fail.py` from the edits and from the prover's logs. The third column has the function or definition that an edit")
+    print("changes, whose contract or laws refuse it. An edit keeps the code's shape, so that what is refused is a fact that no longer")
+    print("holds; the last column has the first one, by its proof. `docs/DECISIONS.md` lists the edits that stand in for another.\n")
     print("## Wrong programs that document 01 names\n\n| wrong program | edits |\n|---|---|")
     for wrong, names in NAMED.items():
         print(f"| {wrong} | {', '.join(f'`{name}`' for name in names)} |")
