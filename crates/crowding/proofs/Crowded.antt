@@ -6,20 +6,20 @@ use mathlib.Core.List.{List, [], _∷_, map}
 use mathlib.Core.Option.{Option, none, some}
 use native.Mathlib.Omega.{arith}
 use lib.ListN.{length, getD}
-use lib.Dec.{T, ltb}
-use borrow.Author.Tests.{le-ltb, lt-ltb}
+use lib.Dec.{T, eqb, leb, ltb}
+use borrow.Author.Tests.{leb-true, le-ltb, lt-ltb}
 use Rattle.lists.specs.Lists.{All, count, every, largest, upTo}
-use Rattle.lists.proofs.Tests.{T-true, and-left, and-both}
+use Rattle.lists.proofs.Tests.{T-true, true-T, and-left, and-right, and-both}
 use Rattle.lists.proofs.Alls.{all-of, all-append, all-imp, all-map, all-both, all-every, getD-all}
 use Rattle.lists.proofs.Counts.{count-le-length, count-mono}
 use Rattle.lists.proofs.Largest.{largest-le}
 use Rattle.lists.proofs.Finds.{firstWhere-none, any-none}
-use Rattle.lists.proofs.UpTo.{length-map-upTo, getD-map-upTo}
+use Rattle.lists.proofs.UpTo.{getD-map-upTo}
 use Rattle.packing.specs.Rows.{ascending, inOrder, rowsAt, member, together, holds, subsets, crowded, firstCrowded}
 use Rattle.packing.specs.Answers.{rowFound}
 use Rattle.packing.specs.declared.RowFound.the-variants.{At, Nothing}
 use Rattle.packing.proofs.RowsAt.{all-rowsAt}
-use Rattle.crowding.specs.Tails.{rowNumber}
+use Rattle.crowding.specs.Tails.{rowNumber, fewLoads}
 use Rattle.crowding.proofs.First.{Below, first-below}
 use Rattle.crowding.proofs.TailSets.{GoodFrom}
 
@@ -87,10 +87,8 @@ module _ (r c : ℕ) (l : List ℕ) (bytes : (i : ℕ) → getD l i 0 < 256) whe
       (all-imp (λ v. v < 256) (λ v. T (ltb v 256)) (λ v lt. T-true (lt-ltb v 256 lt)) row (good .1))))
       (rowsAt r c l) (good-rows r c l bytes order)
 
-  pub first-none-of-loads : (x bound : ℕ)
-      → largest (map (λ node. count (λ row. member node row) (rowsAt r c l)) (upTo 256)) ≤ bound
-      → firstCrowded x bound (rowsAt r c l) ≡ none
-  first-none-of-loads x bound h =
+  pub first-none-of-loads : (x bound : ℕ) → T (fewLoads x bound (rowsAt r c l)) → firstCrowded x bound (rowsAt r c l) ≡ none
+  first-none-of-loads x bound t =
       none-of-loads x bound (rowsAt r c l)
       (all-imp (All (λ v. v < 256)) (All (λ v. load v ≤ bound)) (all-imp (λ v. v < 256) (λ v. load v ≤ bound) few)
       (rowsAt r c l) (all-rowsAt (λ v. v < 256) r c l (getD-all (λ v. v < 256) 0 l (λ i lt. bytes i))))
@@ -100,4 +98,6 @@ module _ (r c : ℕ) (l : List ℕ) (bytes : (i : ℕ) → getD l i 0 < 256) whe
 
       few : (v : ℕ) → v < 256 → load v ≤ bound
       few v lt =
-          omega (arith, largest-le (map load (upTo 256)) v (omega (arith, length-map-upTo load 256)), getD-map-upTo load 256 v 0 lt)
+          let most = largest (map load (upTo 256)) in
+          let small = leb-true most bound (true-T (leb most bound) (and-right (eqb x 0) (leb most bound) t)) in
+          omega (arith, largest-le (map load (upTo 256)) v, getD-map-upTo load 256 v 0 lt)

@@ -1,23 +1,24 @@
--- Nodes are counted and not linked: as many tails come after a node at most as it is counted. Assumes nothing.
+-- Nodes are counted and not linked: as many tails come after a node as it is counted. Assumes nothing.
 use Prim.Native.Nat.{ℕ, zero, suc, _+_, _-_, _/_, _≤_, _<_}
 use mathlib.Core.Path.{_≡_, refl, sym, ap, subst, _∙_}
 use mathlib.Core.Bool.{Bool, true, false, cond, _||_}
-use mathlib.Core.List.{List, [], _∷_}
+use mathlib.Core.List.{List, [], _∷_, map}
 use native.Mathlib.Numerals.{add-one}
 use native.Mathlib.Omega.{arith}
 use lib.ListN.{length, getD, set, length-map}
-use lib.Seq.{getD-set-same, getD-set-other}
-use lib.Dec.{leb, eqb}
+use lib.Seq.{getD-set-same, getD-set-other, take-all}
+use lib.Dec.{eqb}
 use borrow.Author.Tests.{eqb-true, eqb-false}
-use Rattle.lists.specs.Lists.{tally}
-use Rattle.lists.proofs.Tests.{T-true, true-T, and-left}
+use Rattle.lists.specs.Lists.{tally, largest, upTo}
 use Rattle.lists.proofs.Counts.{tally-le-suc}
-use Rattle.packing.specs.Rows.{member}
+use Rattle.lists.proofs.Largest.{largest-le}
+use Rattle.lists.proofs.UpTo.{getD-map-upTo, take-map-upTo}
 use Rattle.crowding.specs.Tails.{Tail, past, leaves, tailsAfter}
 use Rattle.crowding.proofs.TailsFew.{length-after-le}
-use Rattle.crowding.specs.Chains.{rowEnd, tailAt, tailsAt, follow, hits, AfterAtMost}
+use Rattle.crowding.specs.Chains.{rowEnd, tailAt, tailsAt, follow, linked, hits, Ascends, largestAfter, mostAfter}
 use Rattle.crowding.proofs.Follow.{length-follow, follow-next}
-use Rattle.crowding.proofs.Rows.{nodesFrom, nodes-next}
+use Rattle.crowding.proofs.Rows.{nodesFrom, step, tails-linked}
+use Rattle.crowding.proofs.Walks.{row-start, before-end}
 
 -- the next position, and the last
 pub hits-next : (rows : List ℕ) (v f to : ℕ) → f < to
@@ -58,17 +59,16 @@ count-turn rows counts f to n lt cv en u =
         omega arith
     go false e = rw (getD-set-other counts (getD rows f 0) u n 0 (eqb-false u (getD rows f 0) e))
 
--- a node of the n from f on is counted
-member-hits : (rows : List ℕ) (v n f : ℕ) → f + n ≤ length rows → member v (nodesFrom rows f n) ≡ true → 1 ≤ hits rows v f n
-unfolding member hits
-member-hits rows v zero f h m = absurd (subst (λ (b : Bool). cond b ⊥ Unit) m tt)
-member-hits rows v (suc n) f h m =
-    go (eqb v (getD rows f 0)) (rw (nodes-next rows f n (omega arith)) at m) (member-hits rows v n (suc f) (omega arith))
+-- as many positions are counted as would be linked
+length-linked : (rows : List ℕ) (v n f : ℕ) (found : List ℕ) → length (linked rows v f n found) ≡ hits rows v f n + length found
+unfolding linked hits
+length-linked rows v zero f found = omega arith
+length-linked rows v (suc n) f found = go (eqb v (getD rows f 0)) (length-linked rows v n (suc f))
   where
-    go : (b : Bool) → b || member v (nodesFrom rows (suc f) n) ≡ true
-        → (member v (nodesFrom rows (suc f) n) ≡ true → 1 ≤ hits rows v (suc f) n) → 1 ≤ tally b (hits rows v (suc f) n)
-    go true m ih = omega arith
-    go false m ih = ih m
+    go : (b : Bool) → ((l : List ℕ) → length (linked rows v (suc f) n l) ≡ hits rows v (suc f) n + length l)
+        → length (linked rows v (suc f) n (cond b (f ∷ found) found)) ≡ tally b (hits rows v (suc f) n) + length found
+    go true ih = omega (arith, ih (f ∷ found))
+    go false ih = ih found
 
 -- the tails after a node, and those found before
 length-one : (b : Bool) (t : Tail) (found : List Tail) (k : ℕ)
@@ -86,31 +86,22 @@ length-after w v (t ∷ tails) found =
     ∙ length-one (leaves w v (t .nodes)) next found (length (tailsAfter w v tails []))
     ∙ ap (λ (n : ℕ). length found + n) (sym (length-after w v tails (cond (leaves w v (t .nodes)) (next ∷ []) [])))
 
--- one tail more: the nodes of the tail are counted
-module _ (rows : List ℕ) (v i f n : ℕ) (h : f + n ≤ length rows) where
-  after-one : (t : Tail) (b : Bool) → leaves 0 v (nodesFrom rows f n) ≡ b → length {A = Tail} (cond b (t ∷ []) []) ≤ hits rows v f n
-  after-one t true e =
-      member-hits rows v n f h
-      (true-T (member v (nodesFrom rows f n))
-      (and-left (member v (nodesFrom rows f n)) (leb 0 (length (past v (nodesFrom rows f n)))) (T-true e)))
-  after-one t false e = omega arith
-
-  pub after-hits : (tails : List Tail)
-      → length (tailsAfter 0 v (record { row = i; nodes = nodesFrom rows f n } ∷ tails) []) ≤ hits rows v f n + length (tailsAfter 0 v tails [])
-  unfolding tailsAfter
-  after-hits tails =
-      let next : Tail = record { row = i; nodes = past v (nodesFrom rows f n) } in
-      let le = after-one next (leaves 0 v (nodesFrom rows f n)) refl in
-      omega (arith, length-after 0 v tails (cond (leaves 0 v (nodesFrom rows f n)) (next ∷ []) []))
-
--- the next position of a chain, and the last
+-- the next position of a chain: the nodes of its tail are counted; and the last
 module _ (r : ℕ) (rows : List ℕ) (n : ℕ) (next : List ℕ) (p v : ℕ) where
-  pub chain-hits : 0 < n → p + 1 ≤ rowEnd r p → rowEnd r p ≤ length rows
+  pub chain-hits : 0 < n → Ascends r rows → 0 < r → rowEnd r p ≤ length rows
       → length (tailsAfter 0 v (tailsAt r rows (follow n next p)) [])
-      ≤ hits rows v (p + 1) (rowEnd r p - (p + 1)) + length (tailsAfter 0 v (tailsAt r rows (follow (n - 1) next (getD next p 0))) [])
-  chain-hits pos before whole =
-      rw (follow-next n next p pos)
-      (after-hits rows v (p / r) (p + 1) (rowEnd r p - (p + 1)) (omega arith) (tailsAt r rows (follow (n - 1) next (getD next p 0))))
+      ≡ hits rows v (p + 1) (rowEnd r p - (p + 1)) + length (tailsAfter 0 v (tailsAt r rows (follow (n - 1) next (getD next p 0))) [])
+  unfolding tailsAfter
+  chain-hits some order pos whole =
+      let k = rowEnd r p - (p + 1) in
+      let rest = tailsAt r rows (follow (n - 1) next (getD next p 0)) in
+      let start = row-start r p pos in
+      let end = before-end r p pos in
+      let one = tails-linked rows r (p / r) whole order 0 v [] k (p + 1) (omega arith) (omega arith) (omega arith) in
+      let counted = length-linked rows v k (p + 1) [] in
+      let mapped = length-map (linked rows v (p + 1) k []) (tailAt r rows) in
+      rw (follow-next n next p some)
+      (omega (arith, length-after 0 v rest (step 0 v (p / r) (nodesFrom rows (p + 1) k) []), ap length one))
 
   pub chain-end : n ≡ 0 → length (tailsAfter 0 v (tailsAt r rows (follow n next p)) []) ≡ 0
   unfolding follow tailsAfter
@@ -120,6 +111,22 @@ module _ (r : ℕ) (rows : List ℕ) (n : ℕ) (next : List ℕ) (p v : ℕ) whe
 pub length-tails : (r : ℕ) (rows : List ℕ) (n : ℕ) (next : List ℕ) (p : ℕ) → length (tailsAt r rows (follow n next p)) ≡ n
 length-tails r rows n next p = length-map (follow n next p) (tailAt r rows) ∙ length-follow n next p
 
-pub chain-after : (w r : ℕ) (rows : List ℕ) (n : ℕ) (next : List ℕ) (p : ℕ) → AfterAtMost w n (tailsAt r rows (follow n next p))
-chain-after w r rows n next p v =
-    omega (arith, length-after-le w v (tailsAt r rows (follow n next p)) [], length-tails r rows n next p)
+-- after no node there are more tails than that
+pub after-most : (w : ℕ) (tails : List Tail) (v : ℕ) → v < 256 → length (tailsAfter (w - 1) v tails []) ≤ mostAfter w tails
+after-most w tails v lt = go (eqb w 1) refl
+  where
+    after : (u : ℕ) → ℕ
+    after u = length (tailsAfter 0 u tails [])
+
+    go : (b : Bool) → eqb w 1 ≡ b → length (tailsAfter (w - 1) v tails []) ≤ cond b (largestAfter 0 tails) (length tails)
+    go true e =
+        let zero : w - 1 ≡ 0 = omega (arith, eqb-true w 1 e) in
+        rw zero (omega (arith, largest-le (map after (upTo 256)) v, getD-map-upTo after 256 v 0 lt))
+    go false e = omega (arith, length-after-le (w - 1) v tails [])
+
+-- counts of the tails after each node have the largest number of them
+pub largest-counts : (counts : List ℕ) (tails : List Tail) → length counts ≡ 256
+    → ((v : ℕ) → getD counts v 0 ≡ length (tailsAfter 0 v tails [])) → largest counts ≡ largestAfter 0 tails
+largest-counts counts tails all e =
+    let same = take-map-upTo (λ v. length (tailsAfter 0 v tails [])) counts 0 256 (omega arith) (λ v lt. e v) in
+    ap largest (sym (take-all 256 counts (omega arith)) ∙ same)

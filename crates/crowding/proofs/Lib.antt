@@ -10,3 +10,5 @@ pub mod Rows
 pub mod Hits
 pub mod Walks
 pub mod Order
+pub mod Roots
+pub mod Visits

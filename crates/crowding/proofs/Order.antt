@@ -1,22 +1,19 @@
--- Ascending rows, node by node; the bytes of the rows alone, and what the code finds in them; nodes up to a number.
+-- Ascending rows, node by node; the bytes of the rows alone, and what the code finds in them.
 -- Assumes nothing.
 use Prim.Native.Nat.{ℕ, zero, suc, _+_, _-_, _*_, _/_, _≤_, _<_}
 use mathlib.Core.Path.{_≡_, refl, sym, ap, ap₂, subst, _∙_}
-use mathlib.Core.Bool.{Bool, true, false}
 use mathlib.Core.List.{List, [], _∷_, flatten, append-nil}
 use native.Mathlib.Nat.{div-mul-le-self, div-lt-iff-lt-mul, sub-zero, not-suc-le-zero, le-of-suc-le-suc}
 use native.Mathlib.Omega.{arith}
 use lib.ListN.{length, getD, take, drop, length-drop}
 use lib.Seq.{getD-take, getD-drop, length-take-le}
-use lib.Dec.{T, eqb}
-use borrow.Author.Tests.{eqb-true, eqb-false}
+use lib.Dec.{T}
 use Rattle.lists.specs.Lists.{All}
 use Rattle.lists.proofs.Alls.{all-getD}
 use Rattle.packing.specs.Rows.{ascending, rowsAt, firstCrowded}
 use Rattle.packing.proofs.RowsAt.{length-rowsAt, getD-rowsAt, rowsAt-lengths, flatten-rowsAt, rowsAt-flatten}
 use Rattle.packing.proofs.Members.{ascending-head, ascending-tail}
-use Rattle.crowding.specs.Tails.{rowNumber}
-use Rattle.crowding.specs.Tails.{lowestCrowded, rowTails}
+use Rattle.crowding.specs.Tails.{lowestCrowded, rowTails, rowNumber}
 use Rattle.crowding.proofs.Crowded.{good-rows}
 use Rattle.crowding.proofs.TailsFirst.{lowest-first}
 use Rattle.crowding.specs.Chains.{Ascends}
@@ -77,14 +74,3 @@ module _ (r c : ℕ) (rows : List ℕ) (h : c * r ≤ length rows) where
         e
         ∙ ap (λ (rs : List (List ℕ)). lowestCrowded (suc x) bound (rowTails 0 rs) 65536) rows-taken
         ∙ lowest-first x bound (rowsAt r c rows) (good-rows r c rows bytes order) (omega (arith, length-rowsAt r c rows))
-
--- one node more is at most n
-pub up-to-next : (rows : List ℕ) (p m n : ℕ) → ((q : ℕ) → q < p → getD rows q 0 ≤ m) → m ≤ n → getD rows p 0 ≤ n
-    → (q : ℕ) → q < p + 1 → getD rows q 0 ≤ n
-up-to-next rows p m n before mn here q lt = go (eqb q p) refl
-  where
-    go : (b : Bool) → eqb q p ≡ b → getD rows q 0 ≤ n
-    go true e = rw (eqb-true q p e) here
-    go false e =
-        let ne = eqb-false q p e in
-        omega (arith, before q (omega (arith, ne)))

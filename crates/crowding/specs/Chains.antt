@@ -7,7 +7,7 @@ use mathlib.Core.Bool.{cond}
 use mathlib.Core.List.{List, [], _∷_, map}
 use lib.ListN.{length, getD, take, drop}
 use lib.Dec.{eqb}
-use Rattle.lists.specs.Lists.{All, tally}
+use Rattle.lists.specs.Lists.{All, tally, largest, upTo}
 use Rattle.crowding.specs.Tails.{Tail, tailsAfter, overNodes, lowestCrowded}
 
 -- the end of the row that position p is in
@@ -114,6 +114,10 @@ KeptBelow rows counts next last = (v : ℕ) → EmptyBelow (v + 1) counts → Ke
 abbrev pub Counted : (rows : List ℕ) (from n : ℕ) (counts last : List ℕ) → Type 0
 Counted rows from n counts last = (v : ℕ) → getD last v 0 ≡ getD counts v 0 + hits rows v from n
 
--- after each node there are at most m tails
-abbrev pub AfterAtMost : (w m : ℕ) (tails : List Tail) → Type 0
-AfterAtMost w m tails = (v : ℕ) → length (tailsAfter w v tails []) ≤ m
+-- the largest number of tails after one node
+abbrev pub largestAfter : (w : ℕ) (tails : List Tail) → ℕ
+largestAfter w tails = largest (map (λ v. length (tailsAfter w v tails [])) (upTo 256))
+
+-- what no node has more tails after it than, of those that leave w-1 nodes: exact where w is 1, the number of tails else
+abbrev pub mostAfter : (w : ℕ) (tails : List Tail) → ℕ
+mostAfter w tails = cond (eqb w 1) (largestAfter 0 tails) (length tails)

@@ -2,10 +2,11 @@
 -- that hold the nodes chosen so far are the tails. Assumes nothing.
 use Prim.Native.Nat.{ℕ, zero, suc, min}
 use mathlib.Core.Bool.{Bool, cond, _&&_}
-use mathlib.Core.List.{List, [], _∷_}
+use mathlib.Core.List.{List, [], _∷_, map}
 use mathlib.Core.Option.{Option, none, some}
 use lib.ListN.{length}
 use lib.Dec.{leb, ltb, eqb}
+use Rattle.lists.specs.Lists.{count, largest, upTo}
 use Rattle.packing.specs.Rows.{member}
 
 -- a row's number, and its nodes above those already chosen
@@ -49,6 +50,10 @@ lowestCrowded (suc w) bound tails least =
 unfoldable pub rowTails : (i : ℕ) → List (List ℕ) → List Tail
 rowTails i [] = []
 rowTails i (row ∷ rows) = record { row = i; nodes = row } ∷ rowTails (suc i) rows
+
+-- sets of one node, where no node stands in more than `bound` of the rows: nothing is crowded
+abbrev pub fewLoads : (x bound : ℕ) (rows : List (List ℕ)) → Bool
+fewLoads x bound rows = eqb x 0 && leb (largest (map (λ node. count (λ row. member node row) rows) (upTo 256))) bound
 
 -- a row's number, and 65,536 where there is none
 abbrev pub rowNumber : Option ℕ → ℕ

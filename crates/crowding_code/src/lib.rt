@@ -3,18 +3,18 @@ use packing::Record;
 use packing::RowFound;
 ghost use mathlib.Core.Path.{_≡_};
 ghost use Prim.Native.Nat.{_*_, _≤_, _<_};
-ghost use mathlib.Core.Option.{none};
 ghost use lib.Dec.{T};
 ghost use lib.ListN.{length};
 ghost use Rattle.lists.specs.Lists.{All};
 ghost use Rattle.packing.specs.Rows.{ascending, rowsAt, firstCrowded};
 ghost use Rattle.packing.specs.Answers.{rowFound};
+ghost use Rattle.crowding.specs.Tails.{fewLoads};
 
-// For sets of one node: whether no node stands in more than `bound` of the rows, by one count of the bytes.
+// Whether the sets are of one node and no node stands in more than `bound` of the rows, by one count of the bytes.
 fn few_loads(rows: &[u8], c: usize, r: usize, x: usize, bound: usize) -> bool
     requires { ⌜ c * r ≤ length (now rows) ⌝ }
     requires order { ⌜ All (λ row. T (ascending 0 row)) (rowsAt r c (now rows)) ⌝ }
-    ensures { λ few. ⌜ (T few → firstCrowded x bound (rowsAt r c (now (rows .entry))) ≡ none) ⌝ }
+    ensures { λ few. ⌜ few ≡ fewLoads x bound (rowsAt r c (now (rows .entry))) ⌝ }
 {
     if x != 0 {
         return false;
@@ -37,7 +37,7 @@ pub fn first_crowded(rows: &[u8], c: usize, r: usize, x: usize, bound: usize) ->
     }
     let mut next = [0u16; 20480];
     let end = c * r;
-    let least = crowding_visits::least_crowded(&rows[0..end], c, r, x, bound, &mut next);
+    let least = crowding_least::least_crowded(&rows[0..end], c, r, x, bound, &mut next);
     if least < 65536 {
         return RowFound::At(Record(least));
     }

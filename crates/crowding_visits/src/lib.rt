@@ -1,46 +1,9 @@
-// Sets that grow a node at a time: the least number of a row that holds a crowded one.
+// Sets that grow a node at a time, level by level.
 ghost use mathlib.Core.Path.{_≡_};
-ghost use Prim.Native.Nat.{suc, _+_, _*_, _≤_, _<_};
+ghost use Prim.Native.Nat.{_≤_, _<_};
 ghost use lib.ListN.{length, getD};
-ghost use Rattle.lists.specs.Lists.{All};
-ghost use Rattle.packing.specs.Rows.{rowsAt};
-ghost use Rattle.crowding.specs.Tails.{lowestCrowded, rowTails};
-ghost use Rattle.crowding.specs.Chains.{tailsAt, follow, lowestAt, Chained, Ascends, NodesBelow, AtMost, EmptyBelow, AllChained, KeptTo, lowestChild, KeptBelow};
-
-fn higher(a: u8, b: u8) -> u8
-    ensures { λ r. ⌜ (a ≤ r) × (b ≤ r) ⌝ }
-{
-    if a <= b { b } else { a }
-}
-
-// No node is above the result.
-fn highest(rows: &[u8]) -> u8
-    ensures { λ v. ⌜ NodesBelow (v + 1) (now (rows .entry)) ⌝ }
-{
-    let mut p: usize = 0;
-    let mut v: u8 = 0;
-    while p < rows.len() {
-        v = higher(v, rows[p]);
-        p += 1;
-    }
-    v
-}
-
-// The least of `least` and the row numbers of a chain's positions.
-fn lowest(r: usize, head: u16, count: u16, next: &[u16], least: usize) -> usize
-    requires { ⌜ (0 < r) × All (λ p. p < length (now next)) (follow count (now next) head) ⌝ }
-    ensures { λ n. ⌜ n ≡ lowestAt r least (follow count (now (next .entry)) head) ⌝ }
-{
-    let mut p = head as usize;
-    let mut n = count;
-    let mut low = least;
-    while n > 0 {
-        low = minmax::smaller(low, p / r);
-        p = next[p] as usize;
-        n -= 1;
-    }
-    low
-}
+ghost use Rattle.crowding.specs.Tails.{lowestCrowded};
+ghost use Rattle.crowding.specs.Chains.{tailsAt, follow, Chained, Ascends, NodesBelow, AtMost, EmptyBelow, AllChained, KeptTo, lowestChild, KeptBelow};
 
 // The least of `least` and the numbers of the rows that hold a crowded set whose next w nodes come after the chain's.
 fn visit(
@@ -65,14 +28,14 @@ fn visit(
         ⌜ KeptTo (getD (now (rows .entry)) head 0) (now (rows .entry)) (now (next .entry)) (now (next .exit)) ⌝ }
 {
     if w == 0 {
-        return lowest(r, head, count, next, least);
+        return crowding_extremes::lowest(r, head, count, next, least);
     }
-    if crowding_counting::most_after(rows, r, w, head, count, next) as usize <= bound {
+    if crowding_counting::most_after(rows, r, w, head, count, next) <= bound {
         return least;
     }
     let mut heads = [0u16; 256];
     let mut counts = [0u16; 256];
-    let most = crowding_linking::link_tails(
+    let most = crowding_tails::link_tails(
         rows,
         r,
         w - 1,
@@ -82,7 +45,7 @@ fn visit(
         &mut counts,
         next,
     );
-    if most as usize <= bound {
+    if most <= bound {
         return least;
     }
     let low = rows[head as usize] as usize + 1;
@@ -102,7 +65,7 @@ fn visit(
 
 // Visits each node of a level, from `low` to `high`, whose chain is longer than the bound, the largest first: what is
 // linked then for a node are larger nodes, so the chains still to be visited stay.
-fn children(
+pub fn children(
     rows: &[u8],
     r: usize,
     w: usize,
@@ -134,25 +97,4 @@ fn children(
         lowest = visit(rows, r, w, bound, high, heads[v], count, next, lowest);
     }
     lowest
-}
-
-// The least number of a row that holds a set of x+1 nodes in more than `bound` of the rows, 65,536 where there is none;
-// with a slice to link the positions in.
-pub fn least_crowded(
-    rows: &[u8],
-    c: usize,
-    r: usize,
-    x: usize,
-    bound: usize,
-    next: &mut [u16],
-) -> usize
-    requires limits { ⌜ (c ≤ 4096) × (r ≤ 5) × (x < r) × (length (now rows) ≡ c * r) × (20480 ≤ length (now next)) ⌝ }
-    requires order { ⌜ Ascends r (now rows) ⌝ }
-    ensures { λ n. ⌜ n ≡ lowestCrowded (suc x) bound (rowTails 0 (rowsAt r c (now (rows .entry)))) 65536 ⌝ }
-{
-    let mut heads = [0u16; 256];
-    let mut counts = [0u16; 256];
-    crowding_linking::link_rows(rows, c, r, x, &mut heads, &mut counts, next);
-    let high = highest(rows) as usize + 1;
-    children(rows, r, x, bound, high, &heads, &counts, 0, next, 65536)
 }

@@ -1,14 +1,14 @@
 -- `crowding_code::first_crowded` meets its contract: few rows, or few with each node, need no test, and else the least row
 -- number is the answer. Assumes nothing.
 use Prim.Native.Nat.{_<_}
-use mathlib.Core.Path.{sym, ap}
+use mathlib.Core.Path.{sym, ap, _∙_}
 use lib.ListN.{length}
 use lib.Dec.{lit≤}
 use Rattle.lists.proofs.Tests.{T-true}
 use Rattle.packing.specs.Rows.{rowsAt, firstCrowded}
 use Rattle.packing.specs.Answers.{rowFound}
 use Rattle.packing.proofs.RowsAt.{length-rowsAt}
-use Rattle.crowding.proofs.Crowded.{first-none-of-few, first-crowded-below, found-row, found-none}
+use Rattle.crowding.proofs.Crowded.{first-none-of-few, first-none-of-loads, first-crowded-below, found-row, found-none}
 use Rattle.crowding.proofs.Order.{length-taken, taken-ascends, taken-first}
 use native.Mathlib.Omega.{arith}
 use borrow.Author.Needs.{needs}
@@ -27,7 +27,10 @@ few-loads-requires c κs =
     (pre .0 .3, pre .1)
 
 returns-2 : tie.Need-returns-2
-returns-2 c = sym (ap rowFound (c .before .few-loads .ensures (T-true (c .if2 .taken))))
+returns-2 c =
+    let g = c .before .before .before .before .args in
+    let few = sym (c .before .few-loads .ensures) ∙ c .if2 .taken in
+    sym (ap rowFound (first-none-of-loads (g .r) (g .c) (g .rows .now) (λ i. c .before .before .before .shared-slice-known .given i .fits) (g .x) (g .bound) (T-true few)))
 
 mul-end : tie.Need-mul-end
 mul-end c = search needs

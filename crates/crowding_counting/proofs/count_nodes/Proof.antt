@@ -1,8 +1,10 @@
 -- `crowding_counting::count_nodes` meets its contract: what is counted and what is left make the counts of all. Assumes
 -- nothing.
-use Prim.Native.Nat.{ℕ, _+_, _-_, _≤_, _<_}
-use mathlib.Core.Path.{_≡_, refl, sym, _∙_}
+use Prim.Native.Nat.{ℕ, _+_, _-_, max, _≤_, _<_}
+use mathlib.Core.Path.{_≡_, refl, sym, ap, _∙_}
 use lib.ListN.{length, getD, length-set}
+use Rattle.lists.specs.Lists.{largest}
+use Rattle.lists.proofs.Largest.{largest-set}
 use Rattle.crowding.specs.Chains.{hits, AtMost}
 use Rattle.crowding.proofs.Follow.{at-most-set}
 use Rattle.crowding.proofs.Hits.{count-turn, hits-end}
@@ -12,12 +14,12 @@ use Rattle.crowding_counting.proofs.count_nodes.Statement.{statement}
 use Rattle.crowding_counting.proofs.count_nodes.Tie as tie
 
 abbrev Inv-loop : tie.InvT-loop
-Inv-loop rows from to counts₀ most f₀ largest₀ counts f largest =
-    (from ≤ f) × (length counts ≡ 256) × AtMost (65535 - (to - f)) counts × AtMost largest counts
+Inv-loop rows from to counts₀ most₀ f₀ most₁ counts f most =
+    (from ≤ f) × (length counts ≡ 256) × AtMost (65535 - (to - f)) counts × (most ≡ largest counts)
     × ((v : ℕ) → getD counts v 0 + hits rows v f (to - f) ≡ getD counts₀ v 0 + hits rows v from (to - from))
 
 abbrev μ-loop : tie.MeasureT-loop
-μ-loop rows from to counts₀ most f₀ largest₀ counts f largest = to - f
+μ-loop rows from to counts₀ most₀ f₀ most₁ counts f most = to - f
 
 loop-holds : tie.Need-loop-holds Inv-loop μ-loop
 loop-holds c =
@@ -41,7 +43,10 @@ slice-read-n c =
 
 add-n : tie.Need-add-n Inv-loop μ-loop
 add-n c =
-    omega (arith, c .before .before .before .loop .inv .2 (getD (c .before .before .before .before .before .before .args .rows .now) (c .before .before .before .loop .f) 0), c .before .before .before .before .before .before .pre .1)
+    let l = c .before .before .before .loop in
+    let g = c .before .before .before .before .before .before .args in
+    let pre = c .before .before .before .before .before .before .pre in
+    omega (arith, l .inv .2 (getD (g .rows .now) (l .f) 0), pre .1)
 
 mul-counts : tie.Need-mul-counts Inv-loop μ-loop
 mul-counts c =
@@ -50,6 +55,13 @@ mul-counts c =
 slice-write-counts : tie.Need-slice-write-counts Inv-loop μ-loop
 slice-write-counts c =
     omega (arith, c .before .shared-slice-known2 .given (c .before .before .before .loop .f))
+
+cast-larger : tie.Need-cast-larger Inv-loop μ-loop
+cast-larger c =
+    let l = c .before .before .before .loop in
+    let g = c .before .before .before .before .before .before .args in
+    let pre = c .before .before .before .before .before .before .pre in
+    omega (arith, l .inv .2 (getD (g .rows .now) (l .f) 0), pre .1)
 
 larger-requires : tie.Need-larger-requires Inv-loop μ-loop
 larger-requires c κs = search needs
@@ -72,7 +84,7 @@ loop-again c =
       omega arith,
       length-set (l .counts) v n ∙ l .inv .1,
       at-most-set (l .counts) v n cv _ _ (l .inv .2) (omega (arith, pre .1)) (omega (arith, l .inv .2 v, pre .1)),
-      at-most-set (l .counts) v n cv _ _ (l .inv .3) (c .larger .ensures .0) (c .larger .ensures .1),
+      c .larger .ensures ∙ ap (λ m. max m n) (l .inv .3) ∙ sym (largest-set (l .counts) v n cv (omega arith)),
       λ u. count-turn (g .rows .now) (l .counts) (l .f) (g .to) n (c .before .before .before .loop-test .taken) cv refl u ∙ l .inv .4 u,
     )
 
@@ -100,6 +112,7 @@ count-nodes-spec =
     add-n
     mul-counts
     slice-write-counts
+    cast-larger
     larger-requires
     add-f
     loop-less

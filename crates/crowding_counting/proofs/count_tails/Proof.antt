@@ -5,11 +5,12 @@ use mathlib.Core.Path.{_≡_, sym, _∙_}
 use mathlib.Core.List.{[]}
 use native.Mathlib.Nat.{div-le-self}
 use lib.ListN.{length, getD}
-use Rattle.lists.specs.Lists.{All}
+use Rattle.lists.specs.Lists.{All, largest}
+use Rattle.lists.proofs.Largest.{largest-most}
 use Rattle.crowding.specs.Tails.{tailsAfter}
 use Rattle.crowding.specs.Chains.{rowEnd, tailsAt, follow, AtMost}
 use Rattle.crowding.proofs.Follow.{all-follow}
-use Rattle.crowding.proofs.Hits.{hits-le, chain-hits, chain-end}
+use Rattle.crowding.proofs.Hits.{hits-le, chain-hits, chain-end, largest-counts}
 use Rattle.crowding.proofs.Walks.{row-start, before-end}
 use native.Mathlib.Omega.{arith}
 use borrow.Author.Needs.{needs}
@@ -18,18 +19,25 @@ use Rattle.crowding_counting.proofs.count_tails.Tie as tie
 
 abbrev Inv-loop : tie.InvT-loop
 Inv-loop rows r head count next counts₀ p₀ n₀ most₀ counts p n most =
-    (n ≤ count) × (length counts ≡ 256) × AtMost (5 * (count - n)) counts × AtMost most counts
+    (n ≤ count) × (length counts ≡ 256) × AtMost (5 * (count - n)) counts × (most ≡ largest counts)
     × All (λ q. rowEnd r q ≤ length rows) (follow n next p)
     × ((v : ℕ) → length (tailsAfter 0 v (tailsAt r rows (follow count next head)) [])
-    ≤ getD counts v 0 + length (tailsAfter 0 v (tailsAt r rows (follow n next p)) []))
+    ≡ getD counts v 0 + length (tailsAfter 0 v (tailsAt r rows (follow n next p)) []))
 
 abbrev μ-loop : tie.MeasureT-loop
 μ-loop rows r head count next counts₀ p₀ n₀ most₀ counts p n most = n
 
 loop-holds : tie.Need-loop-holds Inv-loop μ-loop
 loop-holds c =
-    let pre = c .before .before .before .pre in
-    (omega arith, pre .1 .0 .0, λ v. omega (arith, pre .1 .0 .1 v), pre .1 .0 .1, pre .1 .1, λ v. omega arith)
+    let g = c .before .before .before .args in
+    let pre = c .before .before .before .pre in (
+      omega arith,
+      pre .1 .0 .0,
+      λ v. omega (arith, pre .1 .0 .1 v),
+      omega (arith, largest-most (g .counts .now) 0 (pre .1 .0 .1)),
+      pre .1 .1 .1,
+      λ v. omega (arith, pre .1 .0 .1 v),
+    )
 
 add-count-nodes : tie.Need-add-count-nodes Inv-loop μ-loop
 add-count-nodes c =
@@ -121,7 +129,7 @@ loop-again c =
       λ v. omega (arith, called .ensures .0 v, hits-le (g .rows .now) v k (l .p + 1), l .inv .2 v, start, pre .0),
       called .ensures .1,
       here .1,
-      λ v. omega (arith, called .ensures .0 v, chain-hits (g .r) (g .rows .now) (l .n) (g .next .now) (l .p) v (c .before .before .before .before .before .loop-test .taken) (omega (arith, end)) (here .0), l .inv .5 v),
+      λ v. omega (arith, called .ensures .0 v, chain-hits (g .r) (g .rows .now) (l .n) (g .next .now) (l .p) v (c .before .before .before .before .before .loop-test .taken) (pre .1 .1 .0) (pre .0 .0) (here .0), l .inv .5 v),
     )
 
 same-length : tie.Need-same-length Inv-loop μ-loop
@@ -132,7 +140,10 @@ returns : tie.Need-returns Inv-loop μ-loop
 returns c =
     let l = c .before .loop in
     let g = c .before .before .before .before .before .args in
-    λ v. omega (arith, chain-end (g .r) (g .rows .now) (l .n) (g .next .now) (l .p) v (omega arith), l .inv .5 v, l .inv .3 v)
+    let tails = tailsAt (g .r) (g .rows .now) (follow (g .count) (g .next .now) (g .head)) in
+    l .inv .3
+    ∙ largest-counts (l .counts) tails (l .inv .1)
+    (λ v. omega (arith, chain-end (g .r) (g .rows .now) (l .n) (g .next .now) (l .p) v (omega arith), l .inv .5 v))
 
 pub count-tails-spec : {M : Type 1} → statement M
 count-tails-spec =

@@ -1,8 +1,8 @@
 -- `crowding_counting::most_after` meets its contract. Assumes nothing.
-use Prim.Native.Nat.{_-_}
-use mathlib.Core.Path.{_≡_, refl}
+use mathlib.Core.Path.{refl, sym}
 use Rattle.crowding.proofs.Follow.{at-most-zero}
-use Rattle.crowding.proofs.Hits.{chain-after}
+use Rattle.crowding.proofs.Hits.{length-tails}
+use borrow.Author.Tests.{eq-eqb, ne-eqb}
 use native.Mathlib.Omega.{arith}
 use borrow.Author.Needs.{needs}
 use Rattle.crowding_counting.proofs.most_after.Statement.{statement}
@@ -11,7 +11,7 @@ use Rattle.crowding_counting.proofs.most_after.Tie as tie
 returns : tie.Need-returns
 returns c =
     let g = c .before .before .before .args in
-    chain-after (g .w - 1) (g .r) (g .rows .now) (g .count) (g .next .now) (g .head)
+    rw (ne-eqb (g .w) 1 (omega arith)) (sym (length-tails (g .r) (g .rows .now) (g .count) (g .next .now) (g .head)))
 
 slice-aggregate-count-tails : tie.Need-slice-aggregate-count-tails
 slice-aggregate-count-tails c = search needs
@@ -24,8 +24,7 @@ count-tails-requires c κs =
 returns-2 : tie.Need-returns-2
 returns-2 c =
     let g = c .before .before .before .before .before .before .args in
-    let e : g .w - 1 ≡ 0 = omega (arith, c .before .before .before .if1 .left) in
-    rw e (c .before .count-tails .ensures)
+    rw (eq-eqb (g .w) 1 (omega arith)) (c .before .count-tails .ensures)
 
 pub most-after-spec : {M : Type 1} → statement M
 most-after-spec =

@@ -1,8 +1,10 @@
 -- `crowding_linking::link` meets its contract: the positions that are left, linked to the present chains, make the chains of
 -- all. Assumes nothing.
-use Prim.Native.Nat.{ℕ, _+_, _-_, _≤_, _<_}
-use mathlib.Core.Path.{_≡_, refl, sym, _∙_}
+use Prim.Native.Nat.{ℕ, _+_, _-_, max, _≤_, _<_}
+use mathlib.Core.Path.{_≡_, refl, sym, ap, _∙_}
 use lib.ListN.{length, getD, length-set}
+use Rattle.lists.specs.Lists.{largest}
+use Rattle.lists.proofs.Largest.{largest-set}
 use Rattle.crowding.specs.Chains.{chain, linked, AtMost, Fresh, KeptOutside}
 use Rattle.crowding.proofs.Follow.{linked-all, turn-linked, turn-fresh, turn-kept, at-most-set}
 use native.Mathlib.Omega.{arith}
@@ -13,7 +15,7 @@ use Rattle.crowding_linking.proofs.link.Tie as tie
 abbrev Inv-loop : tie.InvT-loop
 Inv-loop rows from to heads₀ counts₀ next₀ most f₀ longest₀ heads counts next f longest =
     (from ≤ f) × (length heads ≡ 256) × (length counts ≡ 256) × (length next ≡ length next₀) × AtMost (65530 + (f - from)) counts
-    × AtMost longest counts
+    × (longest ≡ largest counts)
     × Fresh f to heads counts next
     × ((v : ℕ) → linked rows v f (to - f) (chain heads counts next v) ≡ linked rows v from (to - from) (chain heads₀ counts₀ next₀ v))
     × KeptOutside from to next₀ next
@@ -68,7 +70,10 @@ slice-read-n c =
 
 add-n : tie.Need-add-n Inv-loop μ-loop
 add-n c =
-    omega (arith, c .before .before .before .before .loop .inv .4 (getD (c .before .before .before .before .before .before .before .before .before .args .rows .now) (c .before .before .before .before .loop .f) 0), c .before .before .before .before .before .before .before .before .before .pre .1 .1 .0 .0)
+    let l = c .before .before .before .before .loop in
+    let g = c .before .before .before .before .before .before .before .before .before .args in
+    let pre = c .before .before .before .before .before .before .before .before .before .pre in
+    omega (arith, l .inv .4 (getD (g .rows .now) (l .f) 0), pre .1 .1 .0 .0)
 
 mul-counts : tie.Need-mul-counts Inv-loop μ-loop
 mul-counts c =
@@ -77,6 +82,13 @@ mul-counts c =
 slice-write-counts : tie.Need-slice-write-counts Inv-loop μ-loop
 slice-write-counts c =
     omega (arith, c .before .before .shared-slice-known2 .given (c .before .before .before .before .loop .f))
+
+cast-larger : tie.Need-cast-larger Inv-loop μ-loop
+cast-larger c =
+    let l = c .before .before .before .before .loop in
+    let g = c .before .before .before .before .before .before .before .before .before .args in
+    let pre = c .before .before .before .before .before .before .before .before .before .pre in
+    omega (arith, l .inv .4 (getD (g .rows .now) (l .f) 0), pre .1 .1 .0 .0)
 
 larger-requires : tie.Need-larger-requires Inv-loop μ-loop
 larger-requires c κs = search needs
@@ -104,7 +116,7 @@ loop-again c =
       length-set (l .counts) v n ∙ i .2,
       length-set (l .next) (l .f) (getD (l .heads) v 0) ∙ i .3,
       at-most-set (l .counts) v n cv _ _ (i .4) (omega arith) (omega (arith, i .4 v)),
-      at-most-set (l .counts) v n cv _ _ (i .5) (c .larger .ensures .0) (c .larger .ensures .1),
+      c .larger .ensures ∙ ap (λ m. max m n) (i .5) ∙ sym (largest-set (l .counts) v n cv (omega arith)),
       turn-fresh (g .rows .now) (l .heads) (l .counts) (l .next) (l .f) (g .to) n (i .1) (i .2) lt more (omega (arith, byte)) refl (i .6),
       λ u. turn-linked (g .rows .now) (l .heads) (l .counts) (l .next) (l .f) (g .to) n (i .1) (i .2) lt more (omega (arith, byte)) refl (i .6) u ∙ i .7 u,
       turn-kept (g .next .now) (l .next) (g .from) (l .f) (g .to) (getD (l .heads) v 0) (i .0) more (i .8),
@@ -149,6 +161,7 @@ link-spec =
     add-n
     mul-counts
     slice-write-counts
+    cast-larger
     larger-requires
     add-f
     loop-less

@@ -5,7 +5,7 @@ use lib.ListN.{length, getD}
 use Rattle.lists.proofs.Alls.{all-imp}
 use Rattle.crowding.specs.Chains.{rowEnd, tailsAt, follow, Placed}
 use Rattle.crowding.proofs.Follow.{at-most-zero}
-use Rattle.crowding_visits.proofs.Visits.{ToVisit, visit-start, visit-end, visit-skip, visit-chained, visit-next, visit-last, within-next, within-rows, after-few, grown-lowest, grown-few}
+use Rattle.crowding.proofs.Visits.{ToVisit, visit-start, visit-end, visit-skip, visit-chained, visit-next, visit-last, within-next, within-rows, most-few, grown-lowest, grown-few}
 use native.Mathlib.Omega.{arith}
 use borrow.Author.Needs.{needs}
 use Prim.Native.Nat.{ℕ, _+_, _*_, _-_, _≤_, _<_}
@@ -18,8 +18,8 @@ use Rattle.crowding_visits.proofs.visit.Reads as visit
 use Rattle.crowding_visits.proofs.visit.Kinds as visit-kinds
 use Rattle.crowding_visits.proofs.+children+visit.Lts-visit as visit-lts
 use Rattle.crowding_counting.proofs.most_after.Reads as most-after-reads
-use Rattle.crowding_linking.proofs.link_tails.Reads as link-tails-reads
-use Rattle.crowding_visits.proofs.lowest.Reads as lowest-reads
+use Rattle.crowding_tails.proofs.link_tails.Reads as link-tails-reads
+use Rattle.crowding_extremes.proofs.lowest.Reads as lowest-reads
 use Rattle.crowding_visits.proofs.+children+visit.{statement}
 use Rattle.crowding_visits.proofs.+children+visit.Tie.{close}
 
@@ -160,12 +160,12 @@ visit-most-after-requires t c κs =
     let pre = c .before .before .before .before .pre .1 in
     let pos : 0 < g .r = omega (arith, pre .0) in (
       (pos, pre .0 .1, pre .0 .2, pre .1 .0 .1),
-      all-imp (Placed (g .r) (g .rows .now) (getD (g .rows .now) (g .head) 0)) (λ p. rowEnd (g .r) p ≤ length (g .rows .now)) (λ p placed. placed .0)
-          (follow (g .count) (g .next .now) (g .head)) (pre .1 .1 .1 .1 .0),
+      (
+        pre .1 .1 .1 .0,
+        all-imp (Placed (g .r) (g .rows .now) (getD (g .rows .now) (g .head) 0)) (λ p. rowEnd (g .r) p ≤ length (g .rows .now)) (λ p placed. placed .0)
+            (follow (g .count) (g .next .now) (g .head)) (pre .1 .1 .1 .1 .0),
+      ),
     )
-
-visit-cast-if2 : (t : ℕ) → visit-lts.Need-cast-if2 (callees t) (visit-at t) visit.Post
-visit-cast-if2 t c = search needs
 
 visit-same-length-2 : (t : ℕ) → visit-lts.Need-same-length-2 (callees t) (visit-at t) visit.Post
 visit-same-length-2 t c = search needs
@@ -174,7 +174,7 @@ visit-returns-2 : (t : ℕ) → visit-lts.Need-returns-2 (callees t) (visit-at t
 visit-returns-2 t c =
     let g = c .before .before .before .before .before .before .args in
     let pre = c .before .before .before .before .before .before .pre .1 in (
-      after-few (g .w) (g .w - 1) (g .bound) (c .before .most-after .result) (tailsAt (g .r) (g .rows .now) (follow (g .count) (g .next .now) (g .head))) (g .least)
+      most-few (g .w) (g .bound) (c .before .most-after .result) (tailsAt (g .r) (g .rows .now) (follow (g .count) (g .next .now) (g .head))) (g .least)
           (omega (arith, c .before .before .before .if1 .left)) (c .before .most-after .ensures) (c .if2 .taken),
       λ p le. refl,
     )
@@ -194,9 +194,6 @@ visit-link-tails-requires t c κs =
       (omega (arith, pre .0), pre .0 .1, pre .0 .2, pre .0 .3, pre .1 .0 .1),
       ((refl, refl, at-most-zero 256), (pre .1 .1 .1 .0, pre .1 .1 .1 .1)),
     )
-
-visit-cast-if3 : (t : ℕ) → visit-lts.Need-cast-if3 (callees t) (visit-at t) visit.Post
-visit-cast-if3 t c = search needs
 
 visit-same-length-3 : (t : ℕ) → visit-lts.Need-same-length-3 (callees t) (visit-at t) visit.Post
 visit-same-length-3 t c = search needs
@@ -302,14 +299,12 @@ pub +children+visit-spec : {M : Type 1} → statement M
     (visit-same-length t)
     (visit-returns t)
     (visit-most-after-requires t)
-    (visit-cast-if2 t)
     (visit-same-length-2 t)
     (visit-returns-2 t)
     (visit-sub-link-tails t)
     (visit-slice-aggregate-link-tails t)
     (visit-slice-aggregate-link-tails-2 t)
     (visit-link-tails-requires t)
-    (visit-cast-if3 t)
     (visit-same-length-3 t)
     (visit-returns-3 t)
     (visit-shared-slice-read-low t)

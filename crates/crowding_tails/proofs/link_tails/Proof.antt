@@ -1,21 +1,23 @@
--- `crowding_linking::link_tails` meets its contract: a walk along the chain. Assumes nothing.
+-- `crowding_tails::link_tails` meets its contract: a walk along the chain. Assumes nothing.
 use Prim.Native.Nat.{ℕ, _+_, _-_, _/_, _≤_, _<_}
 use mathlib.Core.Path.{_≡_, refl, sym, _∙_}
 use mathlib.Core.List.{List, []}
 use native.Mathlib.Nat.{div-le-self}
 use lib.ListN.{length, getD}
+use Rattle.lists.specs.Lists.{largest}
+use Rattle.lists.proofs.Largest.{largest-most}
 use Rattle.crowding.specs.Tails.{Tail, tailsAfter}
 use Rattle.crowding.specs.Chains.{tailsAt, follow, AtMost, KeptTo}
 use Rattle.crowding.proofs.Walks.{Walk, walk-start, walk-first, walk-end, walk-grown, walk-chained, walk-fresh, walk-kept, walk-on, chain-longer, row-start, before-end}
 use native.Mathlib.Omega.{arith}
 use borrow.Author.Needs.{needs}
-use Rattle.crowding_linking.proofs.link_tails.Statement.{statement}
-use Rattle.crowding_linking.proofs.link_tails.Tie as tie
+use Rattle.crowding_tails.proofs.link_tails.Statement.{statement}
+use Rattle.crowding_tails.proofs.link_tails.Tie as tie
 
 abbrev Inv-loop : tie.InvT-loop
 Inv-loop rows r w head count heads₀ counts₀ next₀ p₀ n₀ most₀ heads counts next p n most =
     (n ≤ count) × (length heads ≡ 256) × (length counts ≡ 256) × (length next ≡ length next₀) × AtMost (count - n) counts
-    × AtMost most counts
+    × (most ≡ largest counts)
     × KeptTo (getD rows head 0) rows next₀ next
     × Walk r w rows (getD rows head 0) (λ u. tailsAfter w u (tailsAt r rows (follow count next₀ head)) []) heads counts next (follow n next p)
 
@@ -31,7 +33,7 @@ loop-holds c =
       pre .1 .0 .1,
       refl,
       λ u. omega (arith, pre .1 .0 .2 u),
-      pre .1 .0 .2,
+      omega (arith, largest-most (g .counts .now) 0 (pre .1 .0 .2)),
       λ q le. refl,
       walk-start (g .r) (g .w) (g .rows .now) (getD (g .rows .now) (g .head) 0) (g .heads .now) (g .counts .now) (g .next .now)
           (follow (g .count) (g .next .now) (g .head)) (pre .1 .0 .2) (pre .1 .1 .1 .0) (pre .1 .1 .1 .1),

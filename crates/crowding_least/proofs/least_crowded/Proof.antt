@@ -1,15 +1,16 @@
--- `crowding_visits::least_crowded` meets its contract: the rows' nodes are the first level. Assumes nothing.
+-- `crowding_least::least_crowded` meets its contract: the rows' nodes are the first level. Assumes nothing.
 use Prim.Native.Nat.{suc}
 use mathlib.Core.Path.{refl, _∙_}
 use native.Mathlib.Nat.{mul-le-mul}
+use Rattle.lists.proofs.Largest.{largest-le, largest-most}
 use Rattle.packing.specs.Rows.{rowsAt}
 use Rattle.crowding.specs.Tails.{rowTails}
 use Rattle.crowding.proofs.Follow.{at-most-zero}
-use Rattle.crowding_visits.proofs.Visits.{grown-lowest}
+use Rattle.crowding.proofs.Visits.{grown-lowest}
 use native.Mathlib.Omega.{arith}
 use borrow.Author.Needs.{needs}
-use Rattle.crowding_visits.proofs.least_crowded.Statement.{statement}
-use Rattle.crowding_visits.proofs.least_crowded.Tie as tie
+use Rattle.crowding_least.proofs.least_crowded.Statement.{statement}
+use Rattle.crowding_least.proofs.least_crowded.Tie as tie
 
 slice-aggregate-link-rows : tie.Need-slice-aggregate-link-rows
 slice-aggregate-link-rows c = search needs
@@ -27,11 +28,11 @@ link-rows-requires c κs =
 highest-requires : tie.Need-highest-requires
 highest-requires c κs = search needs
 
-cast-high : tie.Need-cast-high
-cast-high c = search needs
-
 add-high : tie.Need-add-high
-add-high c = search needs
+add-high c =
+    let rows = c .before .before .before .before .before .before .before .before .before .before .before .args .rows .now in
+    let byte = c .before .before .before .before .before .before .before .before .before .before .shared-slice-known .given in
+    omega (arith, largest-most rows 255 (λ i. omega (arith, byte i)), c .highest .ensures)
 
 slice-aggregate-children : tie.Need-slice-aggregate-children
 slice-aggregate-children c = search needs
@@ -44,6 +45,8 @@ children-requires c κs =
     let g = c .before .before .before .before .before .before .before .before .before .before .before .before .before .before .args in
     let pre = c .before .before .before .before .before .before .before .before .before .before .before .before .before .before .pre in
     let five = mul-le-mul {n₁ = g .c} {m₁ = g .r} {n₂ = 4096} {m₂ = 5} (pre .0 .0) (pre .0 .1) in
+    let byte = c .before .before .before .before .before .before .before .before .before .before .before .before .before .shared-slice-known .given in
+    let high = c .before .before .before .highest .ensures in
     let linked = c .before .before .before .before .before .before .before .before .link-rows in
     let heads = linked .last .1 .1 .1 .1 .0 in
     let counts = linked .last .1 .1 .1 .1 .1 .0 in
@@ -51,7 +54,15 @@ children-requires c κs =
       (pre .0 .2, pre .0 .1, omega (arith, five, pre .0, linked .kept .1 .1 .1 .1 .1 .1 .0), omega (arith, five, pre .0)),
       (
         (linked .kept .1 .1 .1 .1 .0, linked .kept .1 .1 .1 .1 .1 .0, λ v. omega (arith, linked .ensures .1 .1 v, pre .0)),
-        ((omega (arith, c .before .before .before .highest .ok), c .before .before .before .highest .ensures, omega arith, λ u lt. absurd (omega (arith, lt))), (pre .1, linked .ensures .1 .0)),
+        (
+          (
+            omega (arith, largest-most (g .rows .now) 255 (λ i. omega (arith, byte i)), high),
+            λ p lt. omega (arith, largest-le (g .rows .now) p, high),
+            omega arith,
+            λ u lt. absurd (omega (arith, lt)),
+          ),
+          (pre .1, linked .ensures .1 .0),
+        ),
       ),
     )
 
@@ -76,7 +87,6 @@ least-crowded-spec =
     slice-aggregate-link-rows-2
     link-rows-requires
     highest-requires
-    cast-high
     add-high
     slice-aggregate-children
     slice-aggregate-children-2

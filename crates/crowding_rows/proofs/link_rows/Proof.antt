@@ -1,23 +1,25 @@
--- `crowding_linking::link_rows` meets its contract: a walk through the rows. Assumes nothing.
+-- `crowding_rows::link_rows` meets its contract: a walk through the rows. Assumes nothing.
 use Prim.Native.Nat.{ℕ, _-_, _*_, _≤_, _<_}
 use mathlib.Core.Path.{_≡_, refl, sym, _∙_}
 use mathlib.Core.List.{List, []}
 use native.Mathlib.Nat.{mul-le-mul}
 use lib.ListN.{length}
 use Rattle.packing.specs.Rows.{rowsAt}
+use Rattle.lists.specs.Lists.{largest}
+use Rattle.lists.proofs.Largest.{largest-most}
 use Rattle.crowding.specs.Tails.{Tail, tailsAfter, rowTails}
 use Rattle.crowding.specs.Chains.{AtMost}
 use Rattle.crowding.proofs.Walks.{chain-longer}
-use Rattle.crowding_linking.proofs.Roots.{Root, root-start, root-end, root-fresh, root-next, row-whole, link-row}
+use Rattle.crowding.proofs.Roots.{Root, root-start, root-end, root-fresh, root-next, row-whole, link-row}
 use native.Mathlib.Omega.{arith}
 use borrow.Author.Needs.{needs}
-use Rattle.crowding_linking.proofs.link_rows.Statement.{statement}
-use Rattle.crowding_linking.proofs.link_rows.Tie as tie
+use Rattle.crowding_rows.proofs.link_rows.Statement.{statement}
+use Rattle.crowding_rows.proofs.link_rows.Tie as tie
 
 abbrev Inv-loop : tie.InvT-loop
 Inv-loop rows c r w heads₀ counts₀ next₀ i₀ start₀ most₀ heads counts next i start most =
     (i ≤ c) × (start ≡ i * r) × (length heads ≡ 256) × (length counts ≡ 256) × (length next ≡ length next₀) × AtMost i counts
-    × AtMost most counts
+    × (most ≡ largest counts)
     × Root r w c rows (λ u. tailsAfter w u (rowTails 0 (rowsAt r c rows)) []) heads counts next i start
 
 abbrev μ-loop : tie.MeasureT-loop
@@ -33,7 +35,7 @@ loop-holds c =
       pre .1 .0 .1,
       refl,
       pre .1 .0 .2,
-      pre .1 .0 .2,
+      omega (arith, largest-most (g .counts .now) 0 (pre .1 .0 .2)),
       root-start (g .r) (g .w) (g .c) (g .rows .now) (g .heads .now) (g .counts .now) (g .next .now) (pre .1 .0 .2),
     )
 

@@ -1,4 +1,4 @@
--- `crowding_visits::lowest` meets its contract: the rest of the chain from the present least row number gives the answer.
+-- `crowding_extremes::lowest` meets its contract: the rest of the chain from the present least row number gives the answer.
 -- Assumes nothing.
 use Prim.Native.Nat.{ℕ, _-_, _<_}
 use mathlib.Core.Path.{_≡_, ap, _∙_}
@@ -8,8 +8,8 @@ use Rattle.crowding.specs.Chains.{follow, lowestAt}
 use Rattle.crowding.proofs.Follow.{all-follow, lowest-next, lowest-end}
 use native.Mathlib.Omega.{arith}
 use borrow.Author.Needs.{needs}
-use Rattle.crowding_visits.proofs.lowest.Statement.{statement}
-use Rattle.crowding_visits.proofs.lowest.Tie as tie
+use Rattle.crowding_extremes.proofs.lowest.Statement.{statement}
+use Rattle.crowding_extremes.proofs.lowest.Tie as tie
 
 abbrev Inv-loop : tie.InvT-loop
 Inv-loop r head count next least p₀ n₀ low₀ p n low =

@@ -8,14 +8,15 @@ use native.Mathlib.Omega.{arith}
 use lib.ListN.{length, getD}
 use lib.Dec.{leb, ltb}
 use borrow.Author.Tests.{leb-true, leb-false, ltb-true, ltb-false, lt-ltb}
-use Rattle.lists.specs.Lists.{All}
+use Rattle.lists.specs.Lists.{All, largest}
 use Rattle.lists.proofs.Alls.{all-imp}
+use Rattle.lists.proofs.Largest.{largest-le}
 use Rattle.crowding.specs.Tails.{Tail, tailsAfter, lowestRow, overNodes, lowestCrowded}
 use Rattle.crowding.proofs.TailsFew.{lowest-few}
-use Rattle.crowding.specs.Chains.{tailsAt, follow, chain, lowestAt, lowestChild, Placed, Chained, NodesBelow, AtMost, AfterAtMost, EmptyBelow, AllChained, Grown, KeptTo, KeptBelow}
+use Rattle.crowding.specs.Chains.{tailsAt, follow, chain, lowestAt, lowestChild, mostAfter, Placed, Chained, NodesBelow, EmptyBelow, AllChained, Grown, KeptTo, KeptBelow}
 use Rattle.crowding.proofs.Follow.{all-follow}
-use Rattle.crowding.proofs.Hits.{length-tails}
+use Rattle.crowding.proofs.Hits.{length-tails, after-most}
 use Rattle.crowding.proofs.Walks.{follow-kept-to, before-end}
 
 over-next : (f : ℕ → ℕ → ℕ) (v least : ℕ) → 0 < v → overNodes f (v - 1) (f (v - 1) least) ≡ overNodes f v least
 unfolding overNodes
@@ -155,13 +156,18 @@ module _ (r w bound : ℕ) (rows next : List ℕ) (head count least : ℕ) where
       omega (arith, all-follow (Placed r rows v) count next head some (h .0) .0 .0, before-end r head pos)
 
 -- after no node there are more tails than the bound
-pub after-few : (n w bound m : ℕ) (tails : List Tail) (least : ℕ) → n ≡ suc w → AfterAtMost w m tails → m ≤ bound
-    → least ≡ lowestCrowded n bound tails least
+after-few : (n w bound : ℕ) (tails : List Tail) (least : ℕ) → n ≡ suc w
+    → ((v : ℕ) → v < 256 → length (tailsAfter w v tails []) ≤ bound) → least ≡ lowestCrowded n bound tails least
 unfolding lowestCrowded
-after-few n w bound m tails least e few le =
+after-few n w bound tails least e few =
     rw e
     (sym (over-same (λ v least. lowestCrowded w bound (tailsAfter w v tails []) least) 256
-    (λ v least lt. lowest-few w bound (tailsAfter w v tails []) least (omega (arith, few v))) least))
+    (λ v least lt. lowest-few w bound (tailsAfter w v tails []) least (few v lt)) least))
+
+pub most-few : (w bound m : ℕ) (tails : List Tail) (least : ℕ) → 0 < w → m ≡ mostAfter w tails → m ≤ bound
+    → least ≡ lowestCrowded w bound tails least
+most-few w bound m tails least pos e le =
+    after-few w (w - 1) bound tails least (omega arith) (λ v lt. omega (arith, after-most w tails v lt))
 
 -- the level below: its chains hold the tails
 module _ (n w bound r : ℕ) (rows heads counts next : List ℕ) (tails : List Tail) (least : ℕ) (e : n ≡ suc w)
@@ -174,7 +180,7 @@ module _ (n w bound r : ℕ) (rows heads counts next : List ℕ) (tails : List T
       (λ v least. lowestCrowded w bound (tailsAfter w v tails []) least)
       (λ v least. ap (λ (ts : List Tail). lowestCrowded w bound ts least) (grown v)) 256 least)
 
-  pub grown-few : (most : ℕ) → AtMost most counts → most ≤ bound → least ≡ lowestCrowded n bound tails least
+  pub grown-few : (most : ℕ) → most ≡ largest counts → most ≤ bound → least ≡ lowestCrowded n bound tails least
   grown-few most few le =
-      after-few n w bound most tails least e
-      (λ v. omega (arith, few v, length-tails r rows (getD counts v 0) next (getD heads v 0), ap length (grown v))) le
+      after-few n w bound tails least e
+      (λ v lt. omega (arith, largest-le counts v, length-tails r rows (getD counts v 0) next (getD heads v 0), ap length (grown v)))
