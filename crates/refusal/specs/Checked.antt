@@ -4,6 +4,7 @@ use mathlib.Core.Bool.{Bool, true, false}
 use mathlib.Core.List.{List, _++_}
 use lib.ListN.{length, drop}
 use Rattle.refusal.specs.declared.Refusal.{Refusal}
+use Rattle.refusal.specs.Refusals.{Outcome, result, refusalOutcome}
 
 -- Demand 1: "finishes with a result or a numbered refusal and its place".
 pub data Checked (A : Type 0) : Type 0 where
@@ -31,3 +32,8 @@ mapAccepted f (refused e) = refused e
 abbrev pub written : Checked (List ℕ) → List ℕ → List ℕ
 written (accepted bytes) out = bytes ++ drop (length bytes) out
 written (refused e) out = out
+
+-- what a check says in document 01's terms: the values of what is accepted, or the refusal's number and place
+abbrev pub outcome : {A : Type 0} → (A → List ℕ) → Checked A → Outcome
+outcome values (accepted a) = result (values a)
+outcome values (refused e) = refusalOutcome e

@@ -34,8 +34,8 @@ placeOf (ShortWork p) = p
 placeOf (ShortOutput p) = p
 placeOf (BadOrder p) = p
 
--- What an answer says in document 01's terms: a result with its values, or a refusal's number and place. Each answer
--- that is an enum has a definition `outcome` that gives this for every case.
+-- What an answer says in document 01's terms: a result with its values, or a refusal's number and place. "For each answer
+-- that is an enum, a definition gives this paper's number and values for every case of that enum."
 pub data Outcome : Type 0 where
   result : List ℕ → Outcome
   refusal : ℕ → ℕ → Outcome
