@@ -97,7 +97,8 @@ module _ (r w c : ℕ) (rows : List ℕ) where
         λ u. (
           chain-placed rows r w i start row-whole order after within heads counts next heads′ counts′ next′ link-row u (root .0 u .0),
           either (Apart r) u (root .0 u .1)
-              (λ q le lt e. (all-imp (λ s. s < start) (λ s. s / r ≡ q / r → ⊥) (λ s. earlier q s le lt) (chain heads counts next u) (root .1 u), root .0 u .1)),
+              (λ q le lt e.
+              (all-imp (λ s. s < start) (λ s. s / r ≡ q / r → ⊥) (λ s. earlier q s le lt) (chain heads counts next u) (root .1 u), root .0 u .1)),
         ),
         λ u. either (All (λ q. q < start + r)) u (on u) (λ q le lt e. (omega arith, on u)),
         λ u. ap (tailsAfter w u (tailsFrom rows r c (i + 1) (start + r)))

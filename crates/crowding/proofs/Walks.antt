@@ -168,10 +168,12 @@ module _ (rows : List ℕ) (r w p v : ℕ) (pos : 0 < r) (order : Ascends r rows
         λ u. chain-elim rows r w (p / r) (p + 1) (here .0) order past-start to-end heads counts next heads′ counts′ next′ link
             (λ l. Apart r (l ++ rest)) u (apart-without r (chain heads counts next u) rest p (walk .3 u))
             (λ q le lt e. (
-              rw (in-row rows r (p / r) (here .0) order q (omega (arith, past-start)) lt) (apart-from r (chain heads counts next u) rest p (walk .3 u)),
+              rw (in-row rows r (p / r) (here .0) order q (omega (arith, past-start)) lt)
+                  (apart-from r (chain heads counts next u) rest p (walk .3 u)),
               apart-without r (chain heads counts next u) rest p (walk .3 u),
             )),
-        λ u. ap (tailsAfter w u (tailsAt r rows rest)) (chain-tails rows r w (p / r) (p + 1) (here .0) order past-start to-end heads counts next heads′ counts′ next′ link u) ∙ walk .4 u,
+        λ u. ap (tailsAfter w u (tailsAt r rows rest))
+            (chain-tails rows r w (p / r) (p + 1) (here .0) order past-start to-end heads counts next heads′ counts′ next′ link u) ∙ walk .4 u,
       )
 
       pub walk-on : (n : ℕ) → rest ≡ follow n next (getD next p 0) → KeptOutside (p + 1) (rowEnd r p - w) next next′

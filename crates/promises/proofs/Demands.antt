@@ -26,20 +26,26 @@ use Rattle.planner.proofs.Planned.{plan-never-refuses, plan-accepted, plan-fits
 
 -- Demand 2: "A pack .. is accepted exactly when it has document 01's layout, in every layer x no x+1 nodes stand together
 -- in more rows than that layer allows". `PackFile` is the layout, `GoodPack` the limits, the rows and the packings.
-pub demand-2-pack : (bytes : List ℕ) (p : Pack) → Bytes bytes → (checkPack bytes ≡ accepted p) ↔ (PackFile p bytes × GoodPack p)
+pub demand-2-pack : (bytes : List ℕ) (p : Pack) → Bytes bytes
+    → (checkPack bytes ≡ accepted p) ↔ (PackFile p bytes × GoodPack p)
 demand-2-pack = pack-accepted-iff
 
 -- The same of a placement, "and a placement's figure is the one 01's formula gives": the last field of `GoodPlacement`.
-pub demand-2-placement : (bytes : List ℕ) (p : Placement) → Bytes bytes → (checkPlacement bytes ≡ accepted p) ↔ (PlacementFile p bytes × GoodPlacement p)
+pub demand-2-placement : (bytes : List ℕ) (p : Placement) → Bytes bytes
+    → (checkPlacement bytes ≡ accepted p) ↔ (PlacementFile p bytes × GoodPlacement p)
 demand-2-placement = placement-accepted-iff
 
 -- "the planner writes the one placement that 01 names": no two splits are named.
-pub demand-2-one-named : (pack : Pack) (s k b : ℕ) (split other : ℕ → Share) → Named (headsOf (pack .layers)) s k b split → Named (headsOf (pack .layers)) s k b other → (x : ℕ) → x < s → split x ≡ other x
+pub demand-2-one-named : (pack : Pack) (s k b : ℕ) (split other : ℕ → Share)
+    → Named (headsOf (pack .layers)) s k b split → Named (headsOf (pack .layers)) s k b other
+    → (x : ℕ) → x < s → split x ≡ other x
 demand-2-one-named pack s k b split other = named-unique (headsOf (pack .layers)) s k b split other
 
 -- Demand 3: "The survivor figure F of every accepted placement holds whichever k of its n nodes fail: at least F of its b
 -- records have fewer than s replicas among the failed."
-pub demand-3-survivors : (bytes : List ℕ) (p : Placement) → Bytes bytes → checkPlacement bytes ≡ accepted p → (failed : ℕ → Bool) → Failure (p .n) (p .k) failed → p .figure ≤ usable (p .s) (allRows (p .layers)) failed
+pub demand-3-survivors : (bytes : List ℕ) (p : Placement) → Bytes bytes → checkPlacement bytes ≡ accepted p
+    → (failed : ℕ → Bool) → Failure (p .n) (p .k) failed
+    → p .figure ≤ usable (p .s) (allRows (p .layers)) failed
 demand-3-survivors bytes p h e = survivors p (placement-accepted-iff bytes p h .0 e .1)
 
 -- What demand 3 promises of the planner's answer for a pack and an order.
@@ -68,13 +74,18 @@ pub record Kept (bytes : List ℕ) (pack : Pack) (s k b work output : ℕ) : Typ
         counts = five (map size (placement .layers));
       }
   -- "so this F too holds whichever k nodes fail"
-  pub survives : (failed : ℕ → Bool) → Failure (pack .n) k failed → placement .figure ≤ usable s (allRows (placement .layers)) failed
+  pub survives : (failed : ℕ → Bool) → Failure (pack .n) k failed
+      → placement .figure ≤ usable s (allRows (placement .layers)) failed
   -- "Every other split of the b records over the layers .. has a figure of at most F."
-  pub best : (other : ℕ → Share) → Split (headsOf (pack .layers)) s b other → splitFigure (headsOf (pack .layers)) s k b other ≤ placement .figure
+  pub best : (other : ℕ → Share) → Split (headsOf (pack .layers)) s b other
+      → splitFigure (headsOf (pack .layers)) s k b other ≤ placement .figure
 
 -- Demand 3: "For every accepted pack, every s, k and b within limits with a block in some layer below s, and all buffers at
 -- least as long as stated, whatever they hold": `plan` is given their lengths alone.
-pub demand-3-planner : (bytes : List ℕ) (pack : Pack) → Bytes bytes → checkPack bytes ≡ accepted pack → (s k b : ℕ) → OrderLimits pack s k b → T (hasBlock (headsOf (pack .layers)) s) → (work output : ℕ) → workNeeded s b ≤ work → outputNeeded b (pack .r) ≤ output → Kept bytes pack s k b work output
+pub demand-3-planner : (bytes : List ℕ) (pack : Pack) → Bytes bytes → checkPack bytes ≡ accepted pack
+    → (s k b : ℕ) → OrderLimits pack s k b → T (hasBlock (headsOf (pack .layers)) s)
+    → (work output : ℕ) → workNeeded s b ≤ work → outputNeeded b (pack .r) ≤ output
+    → Kept bytes pack s k b work output
 unfolding namedPlacement splitPlacement
 demand-3-planner bytes pack h e s k b order block work output hw ho =
     let good = pack-accepted-iff bytes pack h .0 e .1 in

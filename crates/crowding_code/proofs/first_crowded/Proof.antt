@@ -30,7 +30,10 @@ returns-2 : tie.Need-returns-2
 returns-2 c =
     let g = c .before .before .before .before .args in
     let few = sym (c .before .few-loads .ensures) ∙ c .if2 .taken in
-    sym (ap rowFound (first-none-of-loads (g .r) (g .c) (g .rows .now) (λ i. c .before .before .before .shared-slice-known .given i .fits) (g .x) (g .bound) (T-true few)))
+    sym
+    (ap rowFound
+    (first-none-of-loads (g .r) (g .c) (g .rows .now) (λ i. c .before .before .before .shared-slice-known .given i .fits)
+    (g .x) (g .bound) (T-true few)))
 
 mul-end : tie.Need-mul-end
 mul-end c = search needs
@@ -63,7 +66,8 @@ returns-3 c =
     let rows = rowsAt (g .r) (g .c) (g .rows .now) in
     let n = c .before .before .least-crowded .result in
     let first = taken-first (g .r) (g .c) (g .rows .now) (pre .0 .3) (pre .1) (g .x) (g .bound) n (omega (arith, pre .0))
-    (λ i. c .before .before .before .before .before .before .before .before .shared-slice-known .given i .fits) (c .before .before .least-crowded .ensures) in
+    (λ i. c .before .before .before .before .before .before .before .before .shared-slice-known .given i .fits)
+    (c .before .before .least-crowded .ensures) in
     found-row n (firstCrowded (g .x) (g .bound) rows) first (c .if3 .taken)
 
 returns-4 : tie.Need-returns-4
@@ -73,7 +77,8 @@ returns-4 c =
     let rows = rowsAt (g .r) (g .c) (g .rows .now) in
     let n = c .before .before .least-crowded .result in
     let first = taken-first (g .r) (g .c) (g .rows .now) (pre .0 .3) (pre .1) (g .x) (g .bound) n (omega (arith, pre .0))
-    (λ i. c .before .before .before .before .before .before .before .before .shared-slice-known .given i .fits) (c .before .before .least-crowded .ensures) in
+    (λ i. c .before .before .before .before .before .before .before .before .shared-slice-known .given i .fits)
+    (c .before .before .least-crowded .ensures) in
     found-none n (length rows) (firstCrowded (g .x) (g .bound) rows) first (c .if3 .left) (first-crowded-below (g .x) (g .bound) rows)
     (omega (arith, length-rowsAt (g .r) (g .c) (g .rows .now), pre .0))
 

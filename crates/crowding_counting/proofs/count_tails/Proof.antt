@@ -89,7 +89,8 @@ mul-p c =
     let l = c .before .before .before .before .before .loop in
     let g = c .before .before .before .before .before .before .before .before .before .args in
     let pre = c .before .before .before .before .before .before .before .before .before .pre in
-    let here = all-follow (λ q. rowEnd (g .r) q ≤ length (g .rows .now)) (l .n) (g .next .now) (l .p) (c .before .before .before .before .loop-test .taken) (l .inv .4) in
+    let here = all-follow (λ q. rowEnd (g .r) q ≤ length (g .rows .now)) (l .n) (g .next .now) (l .p)
+    (c .before .before .before .before .loop-test .taken) (l .inv .4) in
     let start = row-start (g .r) (l .p) (pre .0 .0) in
     let end = before-end (g .r) (l .p) (pre .0 .0) in
     omega (arith, here .0, end)
@@ -99,7 +100,8 @@ shared-slice-read-p c =
     let l = c .before .before .before .before .before .before .loop in
     let g = c .before .before .before .before .before .before .before .before .before .before .args in
     let pre = c .before .before .before .before .before .before .before .before .before .before .pre in
-    let here = all-follow (λ q. rowEnd (g .r) q ≤ length (g .rows .now)) (l .n) (g .next .now) (l .p) (c .before .before .before .before .before .loop-test .taken) (l .inv .4) in
+    let here = all-follow (λ q. rowEnd (g .r) q ≤ length (g .rows .now)) (l .n) (g .next .now) (l .p)
+    (c .before .before .before .before .before .loop-test .taken) (l .inv .4) in
     let start = row-start (g .r) (l .p) (pre .0 .0) in
     let end = before-end (g .r) (l .p) (pre .0 .0) in
     omega (arith, here .0, end, pre .0)
@@ -119,7 +121,8 @@ loop-again c =
     let l = c .before .before .before .before .before .before .loop in
     let g = c .before .before .before .before .before .before .before .before .before .before .args in
     let pre = c .before .before .before .before .before .before .before .before .before .before .pre in
-    let here = all-follow (λ q. rowEnd (g .r) q ≤ length (g .rows .now)) (l .n) (g .next .now) (l .p) (c .before .before .before .before .before .loop-test .taken) (l .inv .4) in
+    let here = all-follow (λ q. rowEnd (g .r) q ≤ length (g .rows .now)) (l .n) (g .next .now) (l .p)
+    (c .before .before .before .before .before .loop-test .taken) (l .inv .4) in
     let start = row-start (g .r) (l .p) (pre .0 .0) in
     let end = before-end (g .r) (l .p) (pre .0 .0) in
     let called = c .before .before .before .count-nodes in
@@ -129,7 +132,13 @@ loop-again c =
       λ v. omega (arith, called .ensures .0 v, hits-le (g .rows .now) v k (l .p + 1), l .inv .2 v, start, pre .0),
       called .ensures .1,
       here .1,
-      λ v. omega (arith, called .ensures .0 v, chain-hits (g .r) (g .rows .now) (l .n) (g .next .now) (l .p) v (c .before .before .before .before .before .loop-test .taken) (pre .1 .1 .0) (pre .0 .0) (here .0), l .inv .5 v),
+      λ v. omega (
+        arith,
+        called .ensures .0 v,
+        chain-hits (g .r) (g .rows .now) (l .n) (g .next .now) (l .p) v
+            (c .before .before .before .before .before .loop-test .taken) (pre .1 .1 .0) (pre .0 .0) (here .0),
+        l .inv .5 v,
+      ),
     )
 
 same-length : tie.Need-same-length Inv-loop μ-loop

@@ -29,11 +29,18 @@ smaller-requires c κs = search needs
 
 mul-p : tie.Need-mul-p Inv-loop μ-loop
 mul-p c =
-    omega (arith, all-follow (λ q. q < length (c .before .before .before .before .args .next .now)) (c .before .before .loop .n) (c .before .before .before .before .args .next .now) (c .before .before .loop .p) (c .before .loop-test .taken) (c .before .before .loop .inv .0) .0)
+    omega (
+      arith,
+      all-follow (λ q. q < length (c .before .before .before .before .args .next .now)) (c .before .before .loop .n)
+          (c .before .before .before .before .args .next .now) (c .before .before .loop .p) (c .before .loop-test .taken)
+          (c .before .before .loop .inv .0) .0,
+    )
 
 shared-slice-read-p : tie.Need-shared-slice-read-p Inv-loop μ-loop
 shared-slice-read-p c =
-    all-follow (λ q. q < length (c .before .before .before .before .before .args .next .now)) (c .before .before .before .loop .n) (c .before .before .before .before .before .args .next .now) (c .before .before .before .loop .p) (c .before .before .loop-test .taken) (c .before .before .before .loop .inv .0) .0
+    all-follow (λ q. q < length (c .before .before .before .before .before .args .next .now)) (c .before .before .before .loop .n)
+    (c .before .before .before .before .before .args .next .now) (c .before .before .before .loop .p)
+    (c .before .before .loop-test .taken) (c .before .before .before .loop .inv .0) .0
 
 cast-p : tie.Need-cast-p Inv-loop μ-loop
 cast-p c =
@@ -49,7 +56,9 @@ loop-again : tie.Need-loop-again Inv-loop μ-loop
 loop-again c =
     let l = c .before .before .before .loop in
     let g = c .before .before .before .before .before .args in (
-      all-follow (λ q. q < length (c .before .before .before .before .before .args .next .now)) (c .before .before .before .loop .n) (c .before .before .before .before .before .args .next .now) (c .before .before .before .loop .p) (c .before .before .loop-test .taken) (c .before .before .before .loop .inv .0) .1,
+      all-follow (λ q. q < length (c .before .before .before .before .before .args .next .now)) (c .before .before .before .loop .n)
+          (c .before .before .before .before .before .args .next .now) (c .before .before .before .loop .p)
+          (c .before .before .loop-test .taken) (c .before .before .before .loop .inv .0) .1,
       ap (λ (low : ℕ). lowestAt (g .r) low (follow (l .n - 1) (g .next .now) (getD (g .next .now) (l .p) 0))) (c .before .smaller .ensures)
           ∙ lowest-next (g .r) (l .n) (l .low) (g .next .now) (l .p) (c .before .before .loop-test .taken)
           ∙ l .inv .1,

@@ -77,7 +77,8 @@ returns c =
     let counts = linked .last .1 .1 .1 .1 .1 .0 in
     let next = linked .last .1 .1 .1 .1 .1 .1 .0 in
     c .before .before .children .ensures .0
-    ∙ grown-lowest (suc (g .x)) (g .x) (g .bound) (g .r) (g .rows .now) heads counts next (rowTails 0 (rowsAt (g .r) (g .c) (g .rows .now))) 65536 refl (linked .ensures .0)
+    ∙ grown-lowest (suc (g .x)) (g .x) (g .bound) (g .r) (g .rows .now) heads counts next
+    (rowTails 0 (rowsAt (g .r) (g .c) (g .rows .now))) 65536 refl (linked .ensures .0)
 
 pub least-crowded-spec : {M : Type 1} → statement M
 least-crowded-spec =

@@ -118,7 +118,8 @@ loop-again c =
       at-most-set (l .counts) v n cv _ _ (i .4) (omega arith) (omega (arith, i .4 v)),
       c .larger .ensures ∙ ap (λ m. max m n) (i .5) ∙ sym (largest-set (l .counts) v n cv (omega arith)),
       turn-fresh (g .rows .now) (l .heads) (l .counts) (l .next) (l .f) (g .to) n (i .1) (i .2) lt more (omega (arith, byte)) refl (i .6),
-      λ u. turn-linked (g .rows .now) (l .heads) (l .counts) (l .next) (l .f) (g .to) n (i .1) (i .2) lt more (omega (arith, byte)) refl (i .6) u ∙ i .7 u,
+      λ u. turn-linked (g .rows .now) (l .heads) (l .counts) (l .next) (l .f) (g .to) n (i .1) (i .2) lt more
+          (omega (arith, byte)) refl (i .6) u ∙ i .7 u,
       turn-kept (g .next .now) (l .next) (g .from) (l .f) (g .to) (getD (l .heads) v 0) (i .0) more (i .8),
     )
 
@@ -137,8 +138,10 @@ same-length-3 c =
 returns : tie.Need-returns Inv-loop μ-loop
 returns c =
     let l = c .before .loop in
-    let g = c .before .before .before .before .before .before .args in
-    (λ v. sym (linked-all (g .rows .now) v (l .f) (g .to) (chain (l .heads) (l .counts) (l .next) v) (omega arith)) ∙ l .inv .7 v, (l .inv .5, l .inv .8))
+    let g = c .before .before .before .before .before .before .args in (
+      λ v. sym (linked-all (g .rows .now) v (l .f) (g .to) (chain (l .heads) (l .counts) (l .next) v) (omega arith)) ∙ l .inv .7 v,
+      (l .inv .5, l .inv .8),
+    )
 
 pub link-spec : {M : Type 1} → statement M
 link-spec =

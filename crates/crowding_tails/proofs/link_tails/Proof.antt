@@ -46,7 +46,8 @@ mul-after c =
     let pre = c .before .before .before .before .before .before .pre in
     let v = getD (g .rows .now) (g .head) 0 in
     let goal : ℕ → List Tail = λ u. tailsAfter (g .w) u (tailsAt (g .r) (g .rows .now) (follow (g .count) (g .next .now) (g .head))) [] in
-    let walk = walk-first (g .r) (g .w) (g .rows .now) v goal (l .heads) (l .counts) (l .next) (l .next) (l .n) (l .p) (c .loop-test .taken) (l .inv .7) in
+    let walk = walk-first (g .r) (g .w) (g .rows .now) v goal (l .heads) (l .counts) (l .next) (l .next) (l .n) (l .p)
+    (c .loop-test .taken) (l .inv .7) in
     let here = walk .1 .0 in
     let pos : 0 < g .r = omega (arith, pre .0) in
     omega (arith, here .0, before-end (g .r) (l .p) pos)
@@ -58,7 +59,8 @@ slice-read-after c =
     let pre = c .before .before .before .before .before .before .before .pre in
     let v = getD (g .rows .now) (g .head) 0 in
     let goal : ℕ → List Tail = λ u. tailsAfter (g .w) u (tailsAt (g .r) (g .rows .now) (follow (g .count) (g .next .now) (g .head))) [] in
-    let walk = walk-first (g .r) (g .w) (g .rows .now) v goal (l .heads) (l .counts) (l .next) (l .next) (l .n) (l .p) (c .before .loop-test .taken) (l .inv .7) in
+    let walk = walk-first (g .r) (g .w) (g .rows .now) v goal (l .heads) (l .counts) (l .next) (l .next) (l .n) (l .p)
+    (c .before .loop-test .taken) (l .inv .7) in
     let here = walk .1 .0 in
     let pos : 0 < g .r = omega (arith, pre .0) in
     omega (arith, here .0, before-end (g .r) (l .p) pos)
@@ -74,7 +76,8 @@ add-end c =
     let pre = c .before .before .before .before .before .before .before .pre in
     let v = getD (g .rows .now) (g .head) 0 in
     let goal : ℕ → List Tail = λ u. tailsAfter (g .w) u (tailsAt (g .r) (g .rows .now) (follow (g .count) (g .next .now) (g .head))) [] in
-    let walk = walk-first (g .r) (g .w) (g .rows .now) v goal (l .heads) (l .counts) (l .next) (l .next) (l .n) (l .p) (c .before .loop-test .taken) (l .inv .7) in
+    let walk = walk-first (g .r) (g .w) (g .rows .now) v goal (l .heads) (l .counts) (l .next) (l .next) (l .n) (l .p)
+    (c .before .loop-test .taken) (l .inv .7) in
     let here = walk .1 .0 in
     let pos : 0 < g .r = omega (arith, pre .0) in
     omega (arith, div-le-self (l .p) (g .r), here .0, before-end (g .r) (l .p) pos)
@@ -86,7 +89,8 @@ mul-end c =
     let pre = c .before .before .before .before .before .before .before .pre in
     let v = getD (g .rows .now) (g .head) 0 in
     let goal : ℕ → List Tail = λ u. tailsAfter (g .w) u (tailsAt (g .r) (g .rows .now) (follow (g .count) (g .next .now) (g .head))) [] in
-    let walk = walk-first (g .r) (g .w) (g .rows .now) v goal (l .heads) (l .counts) (l .next) (l .next) (l .n) (l .p) (c .before .loop-test .taken) (l .inv .7) in
+    let walk = walk-first (g .r) (g .w) (g .rows .now) v goal (l .heads) (l .counts) (l .next) (l .next) (l .n) (l .p)
+    (c .before .loop-test .taken) (l .inv .7) in
     let here = walk .1 .0 in
     let pos : 0 < g .r = omega (arith, pre .0) in
     omega (arith, here .0)
@@ -98,7 +102,8 @@ add-link c =
     let pre = c .before .before .before .before .before .before .before .pre in
     let v = getD (g .rows .now) (g .head) 0 in
     let goal : ℕ → List Tail = λ u. tailsAfter (g .w) u (tailsAt (g .r) (g .rows .now) (follow (g .count) (g .next .now) (g .head))) [] in
-    let walk = walk-first (g .r) (g .w) (g .rows .now) v goal (l .heads) (l .counts) (l .next) (l .next) (l .n) (l .p) (c .before .loop-test .taken) (l .inv .7) in
+    let walk = walk-first (g .r) (g .w) (g .rows .now) v goal (l .heads) (l .counts) (l .next) (l .next) (l .n) (l .p)
+    (c .before .loop-test .taken) (l .inv .7) in
     let here = walk .1 .0 in
     let pos : 0 < g .r = omega (arith, pre .0) in
     omega (arith, here .0, before-end (g .r) (l .p) pos)
@@ -110,7 +115,8 @@ sub-link c =
     let pre = c .before .before .before .before .before .before .before .pre in
     let v = getD (g .rows .now) (g .head) 0 in
     let goal : ℕ → List Tail = λ u. tailsAfter (g .w) u (tailsAt (g .r) (g .rows .now) (follow (g .count) (g .next .now) (g .head))) [] in
-    let walk = walk-first (g .r) (g .w) (g .rows .now) v goal (l .heads) (l .counts) (l .next) (l .next) (l .n) (l .p) (c .before .loop-test .taken) (l .inv .7) in
+    let walk = walk-first (g .r) (g .w) (g .rows .now) v goal (l .heads) (l .counts) (l .next) (l .next) (l .n) (l .p)
+    (c .before .loop-test .taken) (l .inv .7) in
     let here = walk .1 .0 in
     let pos : 0 < g .r = omega (arith, pre .0) in
     omega (arith, pre .0, before-end (g .r) (l .p) pos)
@@ -122,7 +128,8 @@ link-requires c κs =
     let pre = c .before .before .before .before .before .before .before .before .before .before .pre in
     let v = getD (g .rows .now) (g .head) 0 in
     let goal : ℕ → List Tail = λ u. tailsAfter (g .w) u (tailsAt (g .r) (g .rows .now) (follow (g .count) (g .next .now) (g .head))) [] in
-    let walk = walk-first (g .r) (g .w) (g .rows .now) v goal (l .heads) (l .counts) (l .next) (l .next) (l .n) (l .p) (c .before .before .before .before .loop-test .taken) (l .inv .7) in
+    let walk = walk-first (g .r) (g .w) (g .rows .now) v goal (l .heads) (l .counts) (l .next) (l .next) (l .n) (l .p)
+    (c .before .before .before .before .loop-test .taken) (l .inv .7) in
     let here = walk .1 .0 in
     let pos : 0 < g .r = omega (arith, pre .0) in (
       (omega (arith, here .0), omega (arith, pre .0), omega (arith, pre .0)),
@@ -137,7 +144,11 @@ link-requires c κs =
 
 cast-p : tie.Need-cast-p Inv-loop μ-loop
 cast-p c =
-    omega (arith, c .before .before .before .before .before .before .before .before .before .before .slice-known4 .given (c .before .before .before .before .before .before .before .before .before .before .before .before .loop .p))
+    omega (
+      arith,
+      c .before .before .before .before .before .before .before .before .before .before .slice-known4 .given
+          (c .before .before .before .before .before .before .before .before .before .before .before .before .loop .p),
+    )
 
 sub-n : tie.Need-sub-n Inv-loop μ-loop
 sub-n c = search needs
@@ -152,7 +163,8 @@ loop-again c =
     let pre = c .before .before .before .before .before .before .before .before .before .before .before .before .before .before .before .before .before .pre in
     let v = getD (g .rows .now) (g .head) 0 in
     let goal : ℕ → List Tail = λ u. tailsAfter (g .w) u (tailsAt (g .r) (g .rows .now) (follow (g .count) (g .next .now) (g .head))) [] in
-    let walk = walk-first (g .r) (g .w) (g .rows .now) v goal (l .heads) (l .counts) (l .next) (l .next) (l .n) (l .p) (c .before .before .before .before .before .before .before .before .before .before .before .loop-test .taken) (l .inv .7) in
+    let walk = walk-first (g .r) (g .w) (g .rows .now) v goal (l .heads) (l .counts) (l .next) (l .next) (l .n) (l .p)
+    (c .before .before .before .before .before .before .before .before .before .before .before .loop-test .taken) (l .inv .7) in
     let here = walk .1 .0 in
     let pos : 0 < g .r = omega (arith, pre .0) in
     let called = c .before .before .before .before .before .before .link in
@@ -160,7 +172,8 @@ loop-again c =
     let heads = called .last .1 .1 .1 .0 in
     let counts = called .last .1 .1 .1 .1 .0 in
     let next = called .last .1 .1 .1 .1 .1 .0 in
-    let longer = chain-longer (g .rows .now) (g .r) (g .w) (l .p / g .r) (l .p + 1) (here .0) (pre .1 .1 .0) (omega (arith, row-start (g .r) (l .p) pos))
+    let longer = chain-longer (g .rows .now) (g .r) (g .w) (l .p / g .r) (l .p + 1) (here .0) (pre .1 .1 .0)
+    (omega (arith, row-start (g .r) (l .p) pos))
     (omega (arith, before-end (g .r) (l .p) pos)) (l .heads) (l .counts) (l .next) heads counts next (called .ensures .0)
     (g .count - l .n) (l .inv .4) in (
       omega arith,
