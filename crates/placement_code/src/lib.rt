@@ -1,36 +1,11 @@
-// Checking placements.
+// Checking placements: the kind, n and r, then what follows them.
 use number::NumberRead;
 use placement::PlacementCheck;
 ghost use mathlib.Core.Path.{_≡_};
 ghost use Prim.Native.Nat.{_≤_};
 ghost use Rattle.placement.specs.Placement.{checkPlacement};
 ghost use Rattle.placement.specs.Answers.{placementChecked};
-ghost use Rattle.placement.specs.Stages.{afterKind, afterN, afterR, afterS};
-
-// The check of a placement from k on, which starts at `at`.
-fn after_s(bytes: &[u8], n: usize, r: usize, s: usize, at: usize) -> PlacementCheck
-    requires { ⌜ (1 ≤ s) × (s ≤ r) × (r ≤ 5) × (2 ≤ n) × (n ≤ 255) ⌝ }
-    ensures { λ check. ⌜ check
-        ≡ placementChecked (now (bytes .entry)) (afterS (now (bytes .entry)) n r s at) ⌝ }
-{
-    let read = number_reader::read_within(bytes, at, s, n - 1);
-    let NumberRead::Value(k, next) = read else {
-        return placement_rows::refuse(layers_reader::refusal_of(read));
-    };
-    placement_rows::after_k(bytes, n, r, s, k, next)
-}
-
-// The check of a placement from s on, which starts at `at`.
-fn after_r(bytes: &[u8], n: usize, r: usize, at: usize) -> PlacementCheck
-    requires { ⌜ (r ≤ 5) × (2 ≤ n) × (n ≤ 255) ⌝ }
-    ensures { λ check. ⌜ check ≡ placementChecked (now (bytes .entry)) (afterR (now (bytes .entry)) n r at) ⌝ }
-{
-    let read = number_reader::read_within(bytes, at, 1, r);
-    let NumberRead::Value(s, next) = read else {
-        return placement_rows::refuse(layers_reader::refusal_of(read));
-    };
-    after_s(bytes, n, r, s, next)
-}
+ghost use Rattle.placement.specs.Stages.{afterKind, afterN};
 
 // The check of a placement from r on, which starts at `at`.
 fn after_n(bytes: &[u8], n: usize, at: usize) -> PlacementCheck
@@ -39,9 +14,9 @@ fn after_n(bytes: &[u8], n: usize, at: usize) -> PlacementCheck
 {
     let read = number_reader::read_within(bytes, at, 2, minmax::smaller(5, n));
     let NumberRead::Value(r, next) = read else {
-        return placement_rows::refuse(layers_reader::refusal_of(read));
+        return placement_refusal::refuse(layers_reader::refusal_of(read));
     };
-    after_r(bytes, n, r, next)
+    placement_from_s::after_r(bytes, n, r, next)
 }
 
 // The check of a placement from n on, which starts at `at`.
@@ -50,7 +25,7 @@ fn after_kind(bytes: &[u8], at: usize) -> PlacementCheck
 {
     let read = number_reader::read_within(bytes, at, 2, 255);
     let NumberRead::Value(n, next) = read else {
-        return placement_rows::refuse(layers_reader::refusal_of(read));
+        return placement_refusal::refuse(layers_reader::refusal_of(read));
     };
     after_n(bytes, n, next)
 }
@@ -65,7 +40,7 @@ pub fn check_placement(bytes: &[u8]) -> PlacementCheck
 {
     let read = layers_reader::read_kind(bytes, 2);
     let NumberRead::Value(_, next) = read else {
-        return placement_rows::refuse(layers_reader::refusal_of(read));
+        return placement_refusal::refuse(layers_reader::refusal_of(read));
     };
     after_kind(bytes, next)
 }

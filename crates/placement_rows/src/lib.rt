@@ -1,7 +1,6 @@
-// Checking placements from b on: the figure, the layers, the rows.
+// Checking placements from the layers' numbers on: these numbers, the rows, the figure.
 use layers::HeadsAnswer;
 use layers::RowsAnswer;
-use number::NumberRead;
 use placement::Head;
 use placement::PlacementAnswer;
 use placement::PlacementCheck;
@@ -10,21 +9,10 @@ ghost use mathlib.Core.Path.{_≡_};
 ghost use Prim.Native.Nat.{_≤_};
 ghost use lib.ListN.{length};
 ghost use Rattle.placement.specs.Answers.{placementChecked};
-ghost use Rattle.placement.specs.Stages.{placementRefused, HeadLimits, afterK, afterB, afterFigure};
-
-// The answer that refuses.
-pub fn refuse(e: Refusal) -> PlacementCheck
-    ensures { λ check. ⌜ check ≡ placementRefused e ⌝ }
-{
-    PlacementCheck {
-        answer: PlacementAnswer::Refused(e),
-        lambda: [0; 5],
-        c: [0; 5],
-    }
-}
+ghost use Rattle.placement.specs.Stages.{HeadLimits, afterFigure};
 
 // The check of a placement from its layers' numbers on, which start at `at`: these numbers, then the rows, then the figure.
-fn after_figure(bytes: &[u8], head: Head, at: usize) -> PlacementCheck
+pub fn after_figure(bytes: &[u8], head: Head, at: usize) -> PlacementCheck
     requires { ⌜ HeadLimits head ⌝ }
     requires { ⌜ at ≤ length (now bytes) ⌝ }
     ensures { λ check. ⌜ check ≡ placementChecked (now (bytes .entry)) (afterFigure (now (bytes .entry)) head at) ⌝ }
@@ -34,7 +22,7 @@ fn after_figure(bytes: &[u8], head: Head, at: usize) -> PlacementCheck
     let lambda = read.bound;
     let c = read.size;
     match answer {
-        HeadsAnswer::Refused(e) => refuse(e),
+        HeadsAnswer::Refused(e) => placement_refusal::refuse(e),
         HeadsAnswer::Next(first) => match layers_code::check_rows(
             bytes,
             first,
@@ -44,10 +32,10 @@ fn after_figure(bytes: &[u8], head: Head, at: usize) -> PlacementCheck
             lambda,
             c,
         ) {
-            RowsAnswer::Refused(e) => refuse(e),
+            RowsAnswer::Refused(e) => placement_refusal::refuse(e),
             RowsAnswer::Good => {
                 if head.figure != placement_figure::figure_of(head.s, head.k, head.b, lambda, c) {
-                    return refuse(Refusal::WrongFigure(head.place));
+                    return placement_refusal::refuse(Refusal::WrongFigure(head.place));
                 }
                 PlacementCheck {
                     answer: PlacementAnswer::Accepted {
@@ -65,47 +53,4 @@ fn after_figure(bytes: &[u8], head: Head, at: usize) -> PlacementCheck
             }
         },
     }
-}
-
-// The check of a placement from the figure on, which starts at `at`.
-fn after_b(
-    bytes: &[u8],
-    n: usize,
-    r: usize,
-    s: usize,
-    k: usize,
-    b: usize,
-    at: usize,
-) -> PlacementCheck
-    requires { ⌜ (1 ≤ s) × (s ≤ r) × (r ≤ 5) × (k ≤ 254) × (b ≤ 4_096) ⌝ }
-    ensures { λ check. ⌜ check
-        ≡ placementChecked (now (bytes .entry)) (afterB (now (bytes .entry)) n r s k b at) ⌝ }
-{
-    let read = number_reader::read_within(bytes, at, 0, b);
-    let NumberRead::Value(figure, next) = read else {
-        return refuse(layers_reader::refusal_of(read));
-    };
-    let head = Head {
-        n,
-        r,
-        s,
-        k,
-        b,
-        figure,
-        place: at,
-    };
-    after_figure(bytes, head, next)
-}
-
-// The check of a placement from b on, which starts at `at`.
-pub fn after_k(bytes: &[u8], n: usize, r: usize, s: usize, k: usize, at: usize) -> PlacementCheck
-    requires { ⌜ (1 ≤ s) × (s ≤ r) × (r ≤ 5) × (k ≤ 254) ⌝ }
-    ensures { λ check. ⌜ check
-        ≡ placementChecked (now (bytes .entry)) (afterK (now (bytes .entry)) n r s k at) ⌝ }
-{
-    let read = number_reader::read_within(bytes, at, 1, 4_096);
-    let NumberRead::Value(b, next) = read else {
-        return refuse(layers_reader::refusal_of(read));
-    };
-    after_b(bytes, n, r, s, k, b, next)
 }

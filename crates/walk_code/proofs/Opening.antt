@@ -1,10 +1,12 @@
 -- The checker's answer is the answer of opening a walk. Assumes nothing.
 use Prim.Native.Nat.{ℕ}
-use mathlib.Core.Path.{_≡_, refl}
+use mathlib.Core.Path.{_≡_, refl, sym, _∙_, ap}
 use mathlib.Core.List.{List}
 use Rattle.refusal.specs.Checked.{Checked, accepted, refused, mapAccepted}
 use Rattle.placement.specs.Placement.{Placement, checkPlacement}
 use Rattle.placement.specs.Answers.{placementChecked}
+use Rattle.placement.specs.declared.PlacementAnswer.{PlacementAnswer}
+use Rattle.placement.specs.declared.PlacementCheck.{PlacementCheck}
 use Rattle.walk.specs.RowWalk.{firstRow, openWalk, walkOpened, openedOf}
 
 answer-opened : (bytes : List ℕ) (checked : Checked Placement)
@@ -13,7 +15,9 @@ answer-opened bytes (accepted p) = refl
 answer-opened bytes (refused e) = refl
 
 -- "(refusals as in checking)"
-pub openedOf-checked : (bytes : List ℕ)
-    → openedOf (placementChecked bytes (checkPlacement bytes) .answer) ≡ walkOpened (openWalk bytes)
+pub openedOf-checked : (bytes : List ℕ) (check : PlacementCheck) {answer : PlacementAnswer}
+    → check ≡ placementChecked bytes (checkPlacement bytes) → check .answer ≡ answer
+    → openedOf answer ≡ walkOpened (openWalk bytes)
 unfolding openWalk
-openedOf-checked bytes = answer-opened bytes (checkPlacement bytes)
+openedOf-checked bytes check is answers =
+    ap openedOf (sym answers ∙ ap (λ (c : PlacementCheck). c .answer) is) ∙ answer-opened bytes (checkPlacement bytes)

@@ -42,24 +42,24 @@ use denote.Triple.Clauses.{ensured, lasts}
 use Rattle.walk.specs.RowWalk.{openWalk, walkOpened, openedPlace}
 use Rattle.walk.specs.declared.Cursor.{Cursor}
 use Rattle.walk.specs.declared.WalkOpened.{WalkOpened}
-use Rattle.walk_code.specs.declared.Walk.{Walk}
+use Rattle.walk_step.specs.declared.Walk.{Walk}
 use Rattle.walk_code.specs.declared.OpenedWalk.{OpenedWalk}
 use Rattle.walk.proofs.Cursor as P
 use Rattle.walk.proofs.Cursor.Laws as P′
 use Rattle.walk.proofs.WalkOpened as E
 use Rattle.walk.proofs.WalkOpened.Laws as E′
-use Rattle.walk_code.proofs.Walk as T
-use Rattle.walk_code.proofs.Walk.Laws as T′
+use Rattle.walk_step.proofs.Walk as T
+use Rattle.walk_step.proofs.Walk.Laws as T′
 use Rattle.walk_code.proofs.OpenedWalk as O
 use Rattle.walk_code.proofs.OpenedWalk.Laws as O′
 use Rattle.walk_code.proofs.opened as opened
 use Rattle.walk_code.proofs.opened.Symbol as opened-def
 use Rattle.walk_code.proofs.opened.Symbol.{name as #walk-code·opened}
 use Rattle.walk_code.proofs.opened.Met as opened-thm
-use Rattle.walk_code.proofs.opened_place as place
-use Rattle.walk_code.proofs.opened_place.Symbol as place-def
-use Rattle.walk_code.proofs.opened_place.Symbol.{name as #walk-code·opened-place}
-use Rattle.walk_code.proofs.opened_place.Met as place-thm
+use Rattle.walk_place.proofs.opened_place as place
+use Rattle.walk_place.proofs.opened_place.Symbol as place-def
+use Rattle.walk_place.proofs.opened_place.Symbol.{name as #walk-place·opened-place}
+use Rattle.walk_place.proofs.opened_place.Met as place-thm
 use Rattle.walk_code.proofs.open_walk.Key.{name as #walk-code·open-walk}
 use Rattle.walk_code.proofs.open_walk as open-walk
 use Rattle.walk_code.proofs.open_walk.Statement as stated
@@ -186,7 +186,7 @@ module _ {M : Type 1} (𝓤 : URA M) (H : Heap 𝓤) (A : Atoms 𝓤) (W : Given
         (subst (λ (y : Val). Holds (hasTy (O′.mir (named 0)) (together (answer-val a) y)) × WT (together (answer-val a) y)) (sym place-is)
         (LL.lawful (O.the-type α) (O′.the-laws α) 𝓤 H A W .typed (opened-at a n) _ (LL.owes (O.the-type α) (O′.the-laws α) (opened-at a n) (answer-spelt, (LL.owes (T.the-type α) (T′.the-laws α) (walk-at n) (su, (place-spelt, tt)), tt))) .0))
 
-  module _ (C : Calls 𝓤 H) (Λ : Loops 𝓤 H) (fm : FmC 𝓤 H (W .laws) C) (known-opened : Triple 𝓤 (C #walk-code·opened) (Opened 𝓤 H A mem run)) (known-place : Triple 𝓤 (C #walk-code·opened-place) (OpenedPlace 𝓤 H A mem run)) where
+  module _ (C : Calls 𝓤 H) (Λ : Loops 𝓤 H) (fm : FmC 𝓤 H (W .laws) C) (known-opened : Triple 𝓤 (C #walk-code·opened) (Opened 𝓤 H A mem run)) (known-place : Triple 𝓤 (C #walk-place·opened-place) (OpenedPlace 𝓤 H A mem run)) where
     walk : Is (ShrSlice (named 0) κ u8) s (v ∷ []) → ent 𝓤 (onEntry 𝓤 H A open-walk.signature (κ, tt) (q, tt) (s, tt) (v ∷ [], tt)) (WpFn 𝓤 H C Λ code.function (v ∷ []) Post)
     walk su =
         qed W (raw (onEntry 𝓤 H A open-walk.signature (κ, tt) (q, tt) (s, tt) (v ∷ [], tt)) ∷ []) ∵ enter ! C Λ code.function (v ∷ []) _ $
@@ -212,13 +212,13 @@ module _ {M : Type 1} (𝓤 : URA M) (H : Heap 𝓤) (A : Atoms 𝓤) (W : Given
         by ! (exits a n u w su au nw is-answer is-place))))))))))))))
 
 module _ {M : Type 1} (𝓤 : URA M) (H : Heap 𝓤) (A : Atoms 𝓤) (W : Given 𝓤 H A) (mem : Memory → SProp 𝓤) (run : Routine → Fun 𝓤) where
-  open-walk-walks : (C : Calls 𝓤 H) (Λ : Loops 𝓤 H) → FmC 𝓤 H (W .laws) C → Triple 𝓤 (C #walk-code·opened) (Opened 𝓤 H A mem run) → Triple 𝓤 (C #walk-code·opened-place) (OpenedPlace 𝓤 H A mem run)
+  open-walk-walks : (C : Calls 𝓤 H) (Λ : Loops 𝓤 H) → FmC 𝓤 H (W .laws) C → Triple 𝓤 (C #walk-code·opened) (Opened 𝓤 H A mem run) → Triple 𝓤 (C #walk-place·opened-place) (OpenedPlace 𝓤 H A mem run)
       → Walks 𝓤 H A open-walk.ended stayed (WpFn 𝓤 H C Λ code.function) (open-walk.clauses 𝓤 H A mem run)
   open-walk-walks C Λ fm known-opened known-place = walked 𝓤 H A open-walk.ended stayed (open-walk.clauses 𝓤 H A mem run) (WpFn 𝓤 H C Λ code.function) (λ κs. (slice-vals, tt)) (λ κs. (shr-slice-tells (named 0) (κs .0) u8, tt))
       (λ κs qs bounds a g are. via 𝓤 _ (fst∗ 𝓤 _ (emp 𝓤)) (walk 𝓤 H A W mem run (κs .0) (qs .0) (a .0) C Λ fm known-opened known-place (are .0)))
 
 open-walk-meets : {M : Type 1} (𝓤 : URA M) (H : Heap 𝓤) (A : Atoms 𝓤) (W : Given 𝓤 H A) (mem : Memory → SProp 𝓤) (run : Routine → Fun 𝓤) (𝓣 : Tables 𝓤 H)
-    → Triple 𝓤 (𝓣 .C #walk-code·opened) (Opened 𝓤 H A mem run) → Triple 𝓤 (𝓣 .C #walk-code·opened-place) (OpenedPlace 𝓤 H A mem run)
+    → Triple 𝓤 (𝓣 .C #walk-code·opened) (Opened 𝓤 H A mem run) → Triple 𝓤 (𝓣 .C #walk-place·opened-place) (OpenedPlace 𝓤 H A mem run)
     → Meets 𝓤 H A open-walk.signature (WpFn 𝓤 H (𝓣 .C) (𝓣 .Λ) code.function) (open-walk.spec 𝓤 H A mem run)
 open-walk-meets 𝓤 H A W mem run 𝓣 known-opened known-place = walk-meets 𝓤 H A open-walk.ended stayed W (goes-none-slice 𝓤 H A W 1 (0 ∷ []) tt (plain (λ _. u8)) yes, tt) (open-walk.clauses 𝓤 H A mem run) (WpFn 𝓤 H (𝓣 .C) (𝓣 .Λ) code.function) (WpFn-mono 𝓤 H (W .laws) 𝓣 code.function)
     (open-walk-walks 𝓤 H A W mem run (𝓣 .C) (𝓣 .Λ) (fmOf 𝓤 H (W .laws) 𝓣) known-opened known-place)
@@ -230,4 +230,4 @@ open-walk-spec 𝓤 H 𝓜 𝓖 𝓡 =
     (tables 𝓤 H 𝓜 𝓡 code.env .C) (tables 𝓤 H 𝓜 𝓡 code.env .Λ) #walk-code·open-walk code.function (code.unfolded 𝓤 H 𝓜 𝓡)
     (open-walk-meets 𝓤 H (𝓖 .A) (givenOf 𝓤 H 𝓜 𝓖) (𝓜 .mem) (𝓡 .run) (tablesOf 𝓤 H 𝓜 (tables 𝓤 H 𝓜 𝓡 code.env))
     (cited 𝓤 H (Opened 𝓤 H (𝓖 .A) (𝓜 .mem) (𝓡 .run)) 𝓜 𝓡 code.env #walk-code·opened opened-def.routine code.calls-walk-code·opened (opened-thm.met 𝓤 H 𝓜 𝓖 𝓡))
-    (cited 𝓤 H (OpenedPlace 𝓤 H (𝓖 .A) (𝓜 .mem) (𝓡 .run)) 𝓜 𝓡 code.env #walk-code·opened-place place-def.routine code.calls-walk-code·opened-place (place-thm.met 𝓤 H 𝓜 𝓖 𝓡)))
+    (cited 𝓤 H (OpenedPlace 𝓤 H (𝓖 .A) (𝓜 .mem) (𝓡 .run)) 𝓜 𝓡 code.env #walk-place·opened-place place-def.routine code.calls-walk-place·opened-place (place-thm.met 𝓤 H 𝓜 𝓖 𝓡)))

@@ -1,8 +1,5 @@
 -- `walk_code::opened` meets its contract: the checker's answer, as that of opening. Assumes nothing.
-use mathlib.Core.Path.{_∙_, ap}
 use borrow.Author.Needs.{needs}
-use Rattle.placement.specs.declared.PlacementCheck.{PlacementCheck}
-use Rattle.walk.specs.RowWalk.{openedOf}
 use Rattle.walk_code.proofs.Opening.{openedOf-checked}
 use Rattle.walk_code.proofs.opened.Statement.{statement}
 use Rattle.walk_code.proofs.opened.Tie as tie
@@ -10,14 +7,23 @@ use Rattle.walk_code.proofs.opened.Tie as tie
 check-placement-requires : tie.Need-check-placement-requires
 check-placement-requires c κs = search needs
 
-opened-of-requires : tie.Need-opened-of-requires
-opened-of-requires c κs = search needs
+enum-known-answer : tie.Need-enum-known-answer
+enum-known-answer c = search needs
+
+enum-known-answer-2 : tie.Need-enum-known-answer-2
+enum-known-answer-2 c = search needs
 
 returns : tie.Need-returns
 returns c =
-    c .opened-of .ensures
-    ∙ ap (λ (checked : PlacementCheck). openedOf (checked .answer)) (c .before .check-placement .ensures)
-    ∙ openedOf-checked (c .before .before .before .args .bytes .now)
+    openedOf-checked (c .before .before .before .before .before .args .bytes .now) _
+    (c .before .before .before .check-placement .ensures) (c .before .answer .given .1)
+
+returns-2 : tie.Need-returns-2
+returns-2 c =
+    openedOf-checked (c .before .before .before .before .before .args .bytes .now) _
+    (c .before .before .before .check-placement .ensures) (c .before .answer2 .given .1)
 
 pub opened-spec : {M : Type 1} → statement M
-opened-spec = tie.close (tie.spec check-placement-requires opened-of-requires returns)
+opened-spec =
+    tie.close
+    (tie.spec check-placement-requires enum-known-answer enum-known-answer-2 returns returns-2)
