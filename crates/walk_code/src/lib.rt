@@ -6,9 +6,9 @@ pub use walk_place::opened_place;
 pub use walk_rows::has_row;
 pub use walk_rows::moved;
 pub use walk_rows::row_at;
-pub use walk_step::step;
 pub use walk_step::Stepped;
 pub use walk_step::Walk;
+pub use walk_step::step;
 ghost use mathlib.Core.Path.{_≡_};
 ghost use Rattle.walk.specs.RowWalk.{openWalk, walkOpened, openedPlace};
 

@@ -1,5 +1,8 @@
--- `walk_code::open_walk` meets its contract: a walk of its MIR, by hand. `opened` is called on the bytes and `opened_place` on its answer, and the struct is made of the bytes, the answer and the place. All that the proof knows of the two is that they meet their contracts.
--- A `&[u8]` is Copy: what it owns is had again for the call and for the result, and is kept for the exit. The lifetime's token goes to `opened`, and comes back.
+-- `walk_code::open_walk` meets its contract: a walk of its MIR, by hand. `opened` is called on the bytes and `opened_place` on
+-- its answer, and the struct is made of the bytes, the answer and the place. All that the proof knows of the two is that they
+-- meet their contracts.
+-- A `&[u8]` is Copy: what it owns is had again for the call and for the result, and is kept for the exit. The lifetime's token
+-- goes to `opened`, and comes back.
 -- Assumes nothing.
 use mathlib.Core.Path.{_≡_, refl, sym, _∙_, ap, subst}
 use Prim.Native.Nat.{ℕ}
@@ -76,7 +79,8 @@ module _ {M : Type 1} (𝓤 : URA M) (H : Heap 𝓤) (A : Atoms 𝓤) (mem : Mem
   abbrev OpenedPlace : Contract 𝓤
   OpenedPlace = tripleOf 𝓤 H A place.signature (place.spec 𝓤 H A mem run)
 
-module _ {M : Type 1} (𝓤 : URA M) (H : Heap 𝓤) (A : Atoms 𝓤) (W : Given 𝓤 H A) (mem : Memory → SProp 𝓤) (run : Routine → Fun 𝓤) (κ : Lft) (q : Share) (s : RefT (List ℕ)) where
+module _ {M : Type 1} (𝓤 : URA M) (H : Heap 𝓤) (A : Atoms 𝓤) (W : Given 𝓤 H A) (mem : Memory → SProp 𝓤) (run : Routine → Fun 𝓤) (κ : Lft) (q : Share)
+    (s : RefT (List ℕ)) where
   abbrev α : NamedLft
   α = namedLft 1 0 tt (κ, tt)
 
@@ -125,11 +129,13 @@ module _ {M : Type 1} (𝓤 : URA M) (H : Heap 𝓤) (A : Atoms 𝓤) (W : Given
   abbrev to-opened : Opened 𝓤 H A mem run .Ghost
   to-opened = (((κ, tt), (q, tt), tt, (s, tt), (v ∷ [], tt)), tt)
 
-  goes-opened : ent 𝓤 (onEntry 𝓤 H A open-walk.signature (κ, tt) (q, tt) (s, tt) (v ∷ [], tt)) (sep 𝓤 (Opened 𝓤 H A mem run .pre to-opened) (sem 𝓤 H A Own))
+  goes-opened : ent 𝓤 (onEntry 𝓤 H A open-walk.signature (κ, tt) (q, tt) (s, tt) (v ∷ [], tt))
+      (sep 𝓤 (Opened 𝓤 H A mem run .pre to-opened) (sem 𝓤 H A Own))
   goes-opened =
       qed W (Token ∷ ‵ (owns (ShrSlice (named 0) κ u8 ∷ []) (s, tt) (v ∷ [], tt)) ∷ []) ∵
       move ! (1 ∷ []) $ fsplit ! $ use1 W (‵ Own ⊛ ‵ Own) (shr-slice-copy 𝓤 H A W (named 0) κ u8 .twice s (v ∷ [])) $ split ! $
-      move ! (0 ∷ 2 ∷ []) $ fjoin ! $ move ! (2 ∷ 0 ∷ []) $ use2 W (raw (Opened 𝓤 H A mem run .pre to-opened)) (qed W (Token ∷ ‵ (owns (ShrSlice (named 0) κ u8 ∷ []) (s, tt) (v ∷ [], tt)) ∷ []) ∵ join ! $ frame ! $ done !) $ frame ! $ done !
+      move ! (0 ∷ 2 ∷ []) $ fjoin ! $ move ! (2 ∷ 0 ∷ []) $ use2 W (raw (Opened 𝓤 H A mem run .pre to-opened))
+      (qed W (Token ∷ ‵ (owns (ShrSlice (named 0) κ u8 ∷ []) (s, tt) (v ∷ [], tt)) ∷ []) ∵ join ! $ frame ! $ done !) $ frame ! $ done !
 
   opened-said : (a : WalkOpened) → ent 𝓤 (ensured 𝓤 H A opened.ended (opened.clauses 𝓤 H A mem run) (κ, tt) (s, tt) tt a) (fact 𝓤 (a ≡ right))
   opened-said a = exE 𝓤 _ (λ ws. snd∗ 𝓤 (sem 𝓤 H A (lasts opened.ended (κ, tt) (s, tt) ws)) (fact 𝓤 (a ≡ right)))
@@ -141,7 +147,8 @@ module _ {M : Type 1} (𝓤 : URA M) (H : Heap 𝓤) (A : Atoms 𝓤) (W : Given
   goes-place : (a : WalkOpened) (u : Val) → ent 𝓤 (sem 𝓤 H A (E.the-row .own a (u ∷ []))) (OpenedPlace 𝓤 H A mem run .pre (to-place a u))
   goes-place a u = qed W (Answer a u ∷ []) ∵ nothing ! $ move ! (1 ∷ 0 ∷ []) $ fjoin ! $ nothing ! $ join ! $ frame ! $ done !
 
-  place-said : (a : WalkOpened) (n : Cursor) → ent 𝓤 (ensured 𝓤 H A place.ended (place.clauses 𝓤 H A mem run) tt (a, tt) tt n) (fact 𝓤 (n ≡ openedPlace a))
+  place-said : (a : WalkOpened) (n : Cursor) → ent 𝓤 (ensured 𝓤 H A place.ended (place.clauses 𝓤 H A mem run) tt (a, tt) tt n)
+      (fact 𝓤 (n ≡ openedPlace a))
   place-said a n = exE 𝓤 _ (λ ws. snd∗ 𝓤 (sem 𝓤 H A (lasts place.ended tt (a, tt) ws)) (fact 𝓤 (n ≡ openedPlace a)))
 
   -- at exit, at the machine values that the answer and the place spell
@@ -149,14 +156,19 @@ module _ {M : Type 1} (𝓤 : URA M) (H : Heap 𝓤) (A : Atoms 𝓤) (W : Given
       → ent 𝓤 (⋆ 𝓤 H A (Place n (P′.lowered n) ∷ Answer a (answer-val a) ∷ Token ∷ ‵ Own ∷ [])) (Post (together (answer-val a) (P′.lowered n)))
   exits-at a n is-answer is-place =
       qed W (Place n (P′.lowered n) ∷ Answer a (answer-val a) ∷ Token ∷ ‵ Own ∷ []) ∵
-      suffices ! _ (ends-at 𝓤 H A open-walk.ended stayed (open-walk.clauses 𝓤 H A mem run) W (((κ, tt), (q, tt), tt, (s, tt), (v ∷ [], tt)), tt) (together (answer-val a) (P′.lowered n)) (opened-at a n) (tt, tt) (tt, tt)) $ says ! (is-answer, refl, is-place ∙ ap openedPlace is-answer) $
-      move ! (2 ∷ []) $ frame ! $ move ! (2 ∷ []) $ use1 W (‵ Own ⊛ ‵ Own) (shr-slice-copy 𝓤 H A W (named 0) κ u8 .twice s (v ∷ [])) $ split ! $ nothing ! $ move ! (1 ∷ 0 ∷ []) $ fjoin ! $ frame ! $
+      suffices ! _ (ends-at 𝓤 H A open-walk.ended stayed (open-walk.clauses 𝓤 H A mem run) W (((κ, tt), (q, tt), tt, (s, tt), (v ∷ [], tt)), tt)
+      (together (answer-val a) (P′.lowered n)) (opened-at a n) (tt, tt) (tt, tt)) $ says ! (is-answer, refl, is-place ∙ ap openedPlace is-answer) $
+      move ! (2 ∷ []) $ frame ! $ move ! (2 ∷ []) $ use1 W (‵ Own ⊛ ‵ Own) (shr-slice-copy 𝓤 H A W (named 0) κ u8 .twice s (v ∷ [])) $ split ! $
+      nothing ! $ move ! (1 ∷ 0 ∷ []) $ fjoin ! $ frame ! $
       -- [what the bytes own; the place's facts; the answer's]: the walk is put together, and stands beside the answer
-      nothing ! $ move ! (2 ∷ 0 ∷ []) $ fjoin ! $ move ! (1 ∷ 0 ∷ []) $ fjoin ! $ use1 W (‵ (T.the-row α .own (walk-at n) (T′.lowered (walk-at n) ∷ []))) (own-shut 𝓤 H A W (T.the-type α) (T′.the-laws α) (s, (n, tt))) $
-      nothing ! $ move ! (1 ∷ 0 ∷ []) $ fjoin ! $ move ! (1 ∷ 0 ∷ []) $ fjoin ! $ by ! (own-shut 𝓤 H A W (O.the-type α) (O′.the-laws α) (a, (walk-at n, tt)))
+      nothing ! $ move ! (2 ∷ 0 ∷ []) $ fjoin ! $ move ! (1 ∷ 0 ∷ []) $ fjoin ! $
+      use1 W (‵ (T.the-row α .own (walk-at n) (T′.lowered (walk-at n) ∷ []))) (own-shut 𝓤 H A W (T.the-type α) (T′.the-laws α) (s, (n, tt))) $
+      nothing ! $ move ! (1 ∷ 0 ∷ []) $ fjoin ! $ move ! (1 ∷ 0 ∷ []) $ fjoin ! $
+      by ! (own-shut 𝓤 H A W (O.the-type α) (O′.the-laws α) (a, (walk-at n, tt)))
 
   -- the callees' results stand in the locals at machine values u and w, of which their types tell that they are those
-  module _ (a : WalkOpened) (n : Cursor) (u w : Val) (su : Is (ShrSlice (named 0) κ u8) s (v ∷ [])) (au : Is E.the-row a (u ∷ [])) (nw : Is P.the-row n (w ∷ [])) where
+  module _ (a : WalkOpened) (n : Cursor) (u w : Val) (su : Is (ShrSlice (named 0) κ u8) s (v ∷ [])) (au : Is E.the-row a (u ∷ []))
+      (nw : Is P.the-row n (w ∷ [])) where
     answer-is : u ≡ answer-val a
     answer-is = ap only (EL.tells E.the-type E′.the-laws a (u ∷ []) au)
 
@@ -166,7 +178,8 @@ module _ {M : Type 1} (𝓤 : URA M) (H : Heap 𝓤) (A : Atoms 𝓤) (W : Given
     exits : a ≡ right → n ≡ openedPlace a → ent 𝓤 (⋆ 𝓤 H A (Place n w ∷ Answer a u ∷ Token ∷ ‵ Own ∷ [])) (Post (together u w))
     exits is-answer is-place =
         subst (λ (x : Val). ent 𝓤 (⋆ 𝓤 H A (Place n w ∷ Answer a x ∷ Token ∷ ‵ Own ∷ [])) (Post (together x w))) (sym answer-is)
-        (subst (λ (y : Val). ent 𝓤 (⋆ 𝓤 H A (Place n y ∷ Answer a (answer-val a) ∷ Token ∷ ‵ Own ∷ [])) (Post (together (answer-val a) y))) (sym place-is) (exits-at a n is-answer is-place))
+        (subst (λ (y : Val). ent 𝓤 (⋆ 𝓤 H A (Place n y ∷ Answer a (answer-val a) ∷ Token ∷ ‵ Own ∷ [])) (Post (together (answer-val a) y)))
+        (sym place-is) (exits-at a n is-answer is-place))
 
     -- the values that are put together have their types
     answer-spelt : Is E.the-row a (answer-val a ∷ [])
@@ -178,49 +191,70 @@ module _ {M : Type 1} (𝓤 : URA M) (H : Heap 𝓤) (A : Atoms 𝓤) (W : Given
     walk-typed : Holds (hasTy (T′.mir erased) (at-place w)) × WT (at-place w)
     walk-typed =
         subst (λ (y : Val). Holds (hasTy (T′.mir erased) (at-place y)) × WT (at-place y)) (sym place-is)
-        (LL.lawful (T.the-type αᵉ) (T′.the-laws αᵉ) 𝓤 H A W .typed (walk-at n) _ (LL.owes (T.the-type αᵉ) (T′.the-laws αᵉ) (walk-at n) (su, (place-spelt, tt))) .0)
+        (LL.lawful (T.the-type αᵉ) (T′.the-laws αᵉ) 𝓤 H A W .typed (walk-at n) _
+        (LL.owes (T.the-type αᵉ) (T′.the-laws αᵉ) (walk-at n) (su, (place-spelt, tt))) .0)
 
     result-typed : Holds (hasTy (O′.mir (named 0)) (together u w)) × WT (together u w)
     result-typed =
         subst (λ (x : Val). Holds (hasTy (O′.mir (named 0)) (together x w)) × WT (together x w)) (sym answer-is)
         (subst (λ (y : Val). Holds (hasTy (O′.mir (named 0)) (together (answer-val a) y)) × WT (together (answer-val a) y)) (sym place-is)
-        (LL.lawful (O.the-type α) (O′.the-laws α) 𝓤 H A W .typed (opened-at a n) _ (LL.owes (O.the-type α) (O′.the-laws α) (opened-at a n) (answer-spelt, (LL.owes (T.the-type α) (T′.the-laws α) (walk-at n) (su, (place-spelt, tt)), tt))) .0))
+        (LL.lawful (O.the-type α) (O′.the-laws α) 𝓤 H A W .typed (opened-at a n) _
+        (LL.owes (O.the-type α) (O′.the-laws α) (opened-at a n) (
+          answer-spelt,
+          (LL.owes (T.the-type α) (T′.the-laws α) (walk-at n) (su, (place-spelt, tt)), tt),
+        )) .0))
 
-  module _ (C : Calls 𝓤 H) (Λ : Loops 𝓤 H) (fm : FmC 𝓤 H (W .laws) C) (known-opened : Triple 𝓤 (C #walk-code·opened) (Opened 𝓤 H A mem run)) (known-place : Triple 𝓤 (C #walk-place·opened-place) (OpenedPlace 𝓤 H A mem run)) where
-    walk : Is (ShrSlice (named 0) κ u8) s (v ∷ []) → ent 𝓤 (onEntry 𝓤 H A open-walk.signature (κ, tt) (q, tt) (s, tt) (v ∷ [], tt)) (WpFn 𝓤 H C Λ code.function (v ∷ []) Post)
+  module _ (C : Calls 𝓤 H) (Λ : Loops 𝓤 H) (fm : FmC 𝓤 H (W .laws) C) (known-opened : Triple 𝓤 (C #walk-code·opened) (Opened 𝓤 H A mem run))
+      (known-place : Triple 𝓤 (C #walk-place·opened-place) (OpenedPlace 𝓤 H A mem run)) where
+    walk : Is (ShrSlice (named 0) κ u8) s (v ∷ []) → ent 𝓤 (onEntry 𝓤 H A open-walk.signature (κ, tt) (q, tt) (s, tt) (v ∷ [], tt))
+        (WpFn 𝓤 H C Λ code.function (v ∷ []) Post)
     walk su =
         qed W (raw (onEntry 𝓤 H A open-walk.signature (κ, tt) (q, tt) (s, tt) (v ∷ [], tt)) ∷ []) ∵ enter ! C Λ code.function (v ∷ []) _ $
-        alloc1 ! (λ l₀. alloc1 ! (λ l₁. alloc1 ! (λ l₂. alloc1 ! (λ l₃. alloc1 ! (λ l₄. alloc0 ! $ params1 ! $ pass1 ! (init ! 6 refl (shr-slice-lawful 𝓤 H A W (named 0) κ u8 .typed s (v ∷ []) su .0)) $ pass0 ! $
+        alloc1 ! (λ l₀. alloc1 ! (λ l₁. alloc1 ! (λ l₂. alloc1 ! (λ l₃. alloc1 ! (λ l₄.
+        alloc0 ! $ params1 ! $
+        pass1 ! (init ! 6 refl (shr-slice-lawful 𝓤 H A W (named 0) κ u8 .typed s (v ∷ []) su .0)) $ pass0 ! $
         move ! (10 ∷ []) $ use1 W (raw (Opened 𝓤 H A mem run .pre to-opened) ⊛ ‵ Own) goes-opened $ split ! $
         calls-at ! fm (Opened 𝓤 H A mem run) known-opened to-opened (and-then ! (load ! (from ! (stop !)) (look ! 8 refl)) (no-more !)) (λ u.
-        use1 W (later (some (λ (a : WalkOpened). (Token ⊛ Answer a u) ⊛ raw (ensured 𝓤 H A opened.ended (opened.clauses 𝓤 H A mem run) (κ, tt) (s, tt) tt a)))) (id⊢ 𝓤 _) $ await ! tt $ pick ! (λ a.
+        use1 W (later (some (λ (a : WalkOpened). (Token ⊛ Answer a u) ⊛ raw
+        (ensured 𝓤 H A opened.ended (opened.clauses 𝓤 H A mem run) (κ, tt) (s, tt) tt a)))) (id⊢ 𝓤 _) $ await ! tt $ pick ! (λ a.
         split ! $ move ! (1 ∷ []) $ use1 W (raw (fact 𝓤 (a ≡ right))) (opened-said a) $ heard ! (a ≡ right) (λ is-answer. split ! $ move ! (1 ∷ []) $
         -- [the answer; the token; what the bytes own; room for _4; …; room for _3; …; room for _2; …; _1; …; room for _0; …]
         peeks ! E.the-row (Is E.the-row) (shows 𝓤 H A E.the-row) a (u ∷ []) (λ au.
         land ! (from ! (stop !)) (init ! 7 refl (EL.lawful E.the-type E′.the-laws 𝓤 H A W tt .typed a (u ∷ []) au .0)) $
-        owned ! E.the-row (Is E.the-row) (EL.makes E.the-type E′.the-plain 𝓤 H A) a (u ∷ []) au $ use1 W (raw (OpenedPlace 𝓤 H A mem run .pre (to-place a u))) (goes-place a u) $
+        owned ! E.the-row (Is E.the-row) (EL.makes E.the-type E′.the-plain 𝓤 H A) a (u ∷ []) au $
+        use1 W (raw (OpenedPlace 𝓤 H A mem run .pre (to-place a u))) (goes-place a u) $
         calls-at ! fm (OpenedPlace 𝓤 H A mem run) known-place (to-place a u) (and-then ! (load ! (from ! (stop !)) (look ! 8 refl)) (no-more !)) (λ w.
-        use1 W (later (some (λ (n : Cursor). (‵ ftrue ⊛ Place n w) ⊛ raw (ensured 𝓤 H A place.ended (place.clauses 𝓤 H A mem run) tt (a, tt) tt n)))) (id⊢ 𝓤 _) $ await ! tt $ pick ! (λ n.
-        split ! $ move ! (1 ∷ []) $ use1 W (raw (fact 𝓤 (n ≡ openedPlace a))) (place-said a n) $ heard ! (n ≡ openedPlace a) (λ is-place. split ! $ drop ! $
+        use1 W (later (some (λ (n : Cursor). (‵ ftrue ⊛ Place n w) ⊛ raw (ensured 𝓤 H A place.ended (place.clauses 𝓤 H A mem run) tt (a, tt) tt n))))
+        (id⊢ 𝓤 _) $ await ! tt $ pick ! (λ n.
+        split ! $ move ! (1 ∷ []) $ use1 W (raw (fact 𝓤 (n ≡ openedPlace a))) (place-said a n) $
+        heard ! (n ≡ openedPlace a) (λ is-place. split ! $ drop ! $
         -- [the place; the answer; the token; what the bytes own; room for _4; …; room for _3; …; _2; …; _1; …; room for _0; …]
         peeks ! P.the-row (Is P.the-row) (shows 𝓤 H A P.the-row) n (w ∷ []) (λ nw.
         land ! (from ! (stop !)) (init ! 6 refl (LL.lawful P.the-type P′.the-laws 𝓤 H A W .typed n (w ∷ []) nw .0)) $
-        assigns ! (agg ! (and-then ! (load ! (from ! (stop !)) (look ! 10 refl)) (and-then ! (load ! (from ! (stop !)) (look ! 6 refl)) (no-more !)))) (from ! (stop !)) (init ! 4 refl (walk-typed a n u w su au nw)) $
-        assigns ! (agg ! (and-then ! (load ! (from ! (stop !)) (look ! 8 refl)) (and-then ! (load ! (from ! (stop !)) (look ! 4 refl)) (no-more !)))) (from ! (stop !)) (init ! 12 refl (result-typed a n u w su au nw)) $
+        assigns ! (agg ! (and-then ! (load ! (from ! (stop !)) (look ! 10 refl)) (and-then ! (load ! (from ! (stop !)) (look ! 6 refl)) (no-more !))))
+        (from ! (stop !)) (init ! 4 refl (walk-typed a n u w su au nw)) $
+        assigns ! (agg ! (and-then ! (load ! (from ! (stop !)) (look ! 8 refl)) (and-then ! (load ! (from ! (stop !)) (look ! 4 refl)) (no-more !))))
+        (from ! (stop !)) (init ! 12 refl (result-typed a n u w su au nw)) $
         returns ! (look ! 12 refl) $ forget ! 4 refl $ forget ! 6 refl $ forget ! 8 refl $ forget ! 10 refl $ forget ! 12 refl $
-        move ! (12 ∷ 13 ∷ []) $ free1 ! $ move ! (10 ∷ 11 ∷ []) $ free1 ! $ move ! (8 ∷ 9 ∷ []) $ free1 ! $ move ! (6 ∷ 7 ∷ []) $ free1 ! $ move ! (4 ∷ 5 ∷ []) $ free1 ! $ free0 ! $
+        move ! (12 ∷ 13 ∷ []) $ free1 ! $ move ! (10 ∷ 11 ∷ []) $ free1 ! $ move ! (8 ∷ 9 ∷ []) $ free1 ! $ move ! (6 ∷ 7 ∷ []) $ free1 ! $
+        move ! (4 ∷ 5 ∷ []) $ free1 ! $ free0 ! $
         by ! (exits a n u w su au nw is-answer is-place))))))))))))))
 
 module _ {M : Type 1} (𝓤 : URA M) (H : Heap 𝓤) (A : Atoms 𝓤) (W : Given 𝓤 H A) (mem : Memory → SProp 𝓤) (run : Routine → Fun 𝓤) where
-  open-walk-walks : (C : Calls 𝓤 H) (Λ : Loops 𝓤 H) → FmC 𝓤 H (W .laws) C → Triple 𝓤 (C #walk-code·opened) (Opened 𝓤 H A mem run) → Triple 𝓤 (C #walk-place·opened-place) (OpenedPlace 𝓤 H A mem run)
+  open-walk-walks : (C : Calls 𝓤 H) (Λ : Loops 𝓤 H) → FmC 𝓤 H (W .laws) C → Triple 𝓤 (C #walk-code·opened) (Opened 𝓤 H A mem run)
+      → Triple 𝓤 (C #walk-place·opened-place) (OpenedPlace 𝓤 H A mem run)
       → Walks 𝓤 H A open-walk.ended stayed (WpFn 𝓤 H C Λ code.function) (open-walk.clauses 𝓤 H A mem run)
-  open-walk-walks C Λ fm known-opened known-place = walked 𝓤 H A open-walk.ended stayed (open-walk.clauses 𝓤 H A mem run) (WpFn 𝓤 H C Λ code.function) (λ κs. (slice-vals, tt)) (λ κs. (shr-slice-tells (named 0) (κs .0) u8, tt))
+  open-walk-walks C Λ fm known-opened known-place = walked 𝓤 H A open-walk.ended stayed (open-walk.clauses 𝓤 H A mem run) (WpFn 𝓤 H C Λ code.function)
+      (λ κs. (slice-vals, tt)) (λ κs. (shr-slice-tells (named 0) (κs .0) u8, tt))
       (λ κs qs bounds a g are. via 𝓤 _ (fst∗ 𝓤 _ (emp 𝓤)) (walk 𝓤 H A W mem run (κs .0) (qs .0) (a .0) C Λ fm known-opened known-place (are .0)))
 
-open-walk-meets : {M : Type 1} (𝓤 : URA M) (H : Heap 𝓤) (A : Atoms 𝓤) (W : Given 𝓤 H A) (mem : Memory → SProp 𝓤) (run : Routine → Fun 𝓤) (𝓣 : Tables 𝓤 H)
+open-walk-meets : {M : Type 1} (𝓤 : URA M) (H : Heap 𝓤) (A : Atoms 𝓤) (W : Given 𝓤 H A) (mem : Memory → SProp 𝓤) (run : Routine → Fun 𝓤)
+    (𝓣 : Tables 𝓤 H)
     → Triple 𝓤 (𝓣 .C #walk-code·opened) (Opened 𝓤 H A mem run) → Triple 𝓤 (𝓣 .C #walk-place·opened-place) (OpenedPlace 𝓤 H A mem run)
     → Meets 𝓤 H A open-walk.signature (WpFn 𝓤 H (𝓣 .C) (𝓣 .Λ) code.function) (open-walk.spec 𝓤 H A mem run)
-open-walk-meets 𝓤 H A W mem run 𝓣 known-opened known-place = walk-meets 𝓤 H A open-walk.ended stayed W (goes-none-slice 𝓤 H A W 1 (0 ∷ []) tt (plain (λ _. u8)) yes, tt) (open-walk.clauses 𝓤 H A mem run) (WpFn 𝓤 H (𝓣 .C) (𝓣 .Λ) code.function) (WpFn-mono 𝓤 H (W .laws) 𝓣 code.function)
+open-walk-meets 𝓤 H A W mem run 𝓣 known-opened known-place = walk-meets 𝓤 H A open-walk.ended stayed W
+    (goes-none-slice 𝓤 H A W 1 (0 ∷ []) tt (plain (λ _. u8)) yes, tt) (open-walk.clauses 𝓤 H A mem run) (WpFn 𝓤 H (𝓣 .C) (𝓣 .Λ) code.function)
+    (WpFn-mono 𝓤 H (W .laws) 𝓣 code.function)
     (open-walk-walks 𝓤 H A W mem run (𝓣 .C) (𝓣 .Λ) (fmOf 𝓤 H (W .laws) 𝓣) known-opened known-place)
 
 pub open-walk-spec : {M : Type 1} → stated.statement M
@@ -229,5 +263,7 @@ open-walk-spec 𝓤 H 𝓜 𝓖 𝓡 =
     entered 𝓤 H (tripleOf 𝓤 H (𝓖 .A) open-walk.signature (open-walk.spec 𝓤 H (𝓖 .A) (𝓜 .mem) (𝓡 .run)))
     (tables 𝓤 H 𝓜 𝓡 code.env .C) (tables 𝓤 H 𝓜 𝓡 code.env .Λ) #walk-code·open-walk code.function (code.unfolded 𝓤 H 𝓜 𝓡)
     (open-walk-meets 𝓤 H (𝓖 .A) (givenOf 𝓤 H 𝓜 𝓖) (𝓜 .mem) (𝓡 .run) (tablesOf 𝓤 H 𝓜 (tables 𝓤 H 𝓜 𝓡 code.env))
-    (cited 𝓤 H (Opened 𝓤 H (𝓖 .A) (𝓜 .mem) (𝓡 .run)) 𝓜 𝓡 code.env #walk-code·opened opened-def.routine code.calls-walk-code·opened (opened-thm.met 𝓤 H 𝓜 𝓖 𝓡))
-    (cited 𝓤 H (OpenedPlace 𝓤 H (𝓖 .A) (𝓜 .mem) (𝓡 .run)) 𝓜 𝓡 code.env #walk-place·opened-place place-def.routine code.calls-walk-place·opened-place (place-thm.met 𝓤 H 𝓜 𝓖 𝓡)))
+    (cited 𝓤 H (Opened 𝓤 H (𝓖 .A) (𝓜 .mem) (𝓡 .run)) 𝓜 𝓡 code.env #walk-code·opened opened-def.routine code.calls-walk-code·opened
+    (opened-thm.met 𝓤 H 𝓜 𝓖 𝓡))
+    (cited 𝓤 H (OpenedPlace 𝓤 H (𝓖 .A) (𝓜 .mem) (𝓡 .run)) 𝓜 𝓡 code.env #walk-place·opened-place place-def.routine code.calls-walk-place·opened-place
+    (place-thm.met 𝓤 H 𝓜 𝓖 𝓡)))
