@@ -59,11 +59,6 @@ abbrev pub headsOutcome : HeadsAnswer → Outcome
 headsOutcome (Next next) = result (next ∷ [])
 headsOutcome (Refused e) = refusalOutcome e
 
--- the answer for a layer that was not read; the code asks it of no other
-abbrev pub layerFailed : LayerRead → LayersRead
-layerFailed (Numbers bound size next) = record { answer = Next next; bound = five []; size = five [] }
-layerFailed (LayerRefused e) = record { answer = Refused e; bound = five []; size = five [] }
-
 -- the two numbers of the first layers that the code's arrays give
 abbrev pub arrayHeads : (layers : ℕ) (bound size : List ℕ) → List LayerHead
 arrayHeads layers bound size = map (λ x. record { bound = getD bound x 0; size = getD size x 0 }) (upTo layers)

@@ -1,2 +1,1 @@
-pub mod CrowdLoop
 pub mod RowsAnswers

@@ -14,10 +14,10 @@ use Rattle.number.specs.Answers.{numberRead}
 use Rattle.number.specs.declared.NumberRead.{NumberRead}
 use Rattle.number.specs.declared.NumberRead.the-variants.{Value, Refused as NotRead}
 use Rattle.layers.specs.Layers.{LayerHead, LayerHeads, LayerLimits, leastSize, readLayers, five}
-use Rattle.layers.specs.Answers.{LayerReading, refusalOf, readLayer, layerRead, layersRead, layerFailed}
+use Rattle.layers.specs.Answers.{LayerReading, refusalOf, readLayer, layerRead, layersRead}
 use Rattle.layers.specs.declared.LayerRead.{LayerRead}
 use Rattle.layers.specs.declared.LayerRead.the-variants.{Numbers, Refused as LayerRefused}
-use Rattle.layers.specs.declared.HeadsAnswer.the-variants.{Next}
+use Rattle.layers.specs.declared.HeadsAnswer.the-variants.{Next, Refused as NoNext}
 use Rattle.layers.specs.declared.LayersRead.{LayersRead}
 use Rattle.number.proofs.Within.{read-of-readWithin}
 use Rattle.layers.proofs.Readings.{bind-not-read, bind-read}
@@ -25,21 +25,22 @@ use Rattle.layers.proofs.Readings.{bind-not-read, bind-read}
 -- The answers of `read_layer`, over what `read_within` answered.
 module _ (lo hi least room : ℕ) (s : List ℕ) (at : ℕ) (first : NumberRead)
     (is : first ≡ numberRead (readWithin lo hi s at)) where
-  pub bound-not-read : {why e : Refusal} → first ≡ NotRead why → e ≡ refusalOf first
-      → LayerRefused e ≡ layerRead (readLayer lo hi least room s at)
+  pub bound-not-read : {why : Refusal} → first ≡ NotRead why
+      → LayerRefused why ≡ layerRead (readLayer lo hi least room s at)
   unfolding readLayer
-  bound-not-read w k = ap LayerRefused k ∙ sym (ap layerRead (bind-not-read (readWithin lo hi s at) _ first is w))
+  bound-not-read w =
+      sym (ap layerRead (bind-not-read (readWithin lo hi s at) _ first is w) ∙ ap LayerRefused (ap refusalOf w))
 
   module _ {bound middle : ℕ} (b : first ≡ Value bound middle) (second : NumberRead)
       (are : second ≡ numberRead (readWithin least room s middle)) where
-    pub size-not-read : {why e : Refusal} → second ≡ NotRead why → e ≡ refusalOf second
-        → LayerRefused e ≡ layerRead (readLayer lo hi least room s at)
+    pub size-not-read : {why : Refusal} → second ≡ NotRead why
+        → LayerRefused why ≡ layerRead (readLayer lo hi least room s at)
     unfolding readLayer
-    size-not-read w k =
-        ap LayerRefused k
-        ∙ sym
+    size-not-read w =
+        sym
         (ap layerRead
-        (bind-read (readWithin lo hi s at) _ first is b ∙ bind-not-read (readWithin least room s middle) _ second are w))
+        (bind-read (readWithin lo hi s at) _ first is b ∙ bind-not-read (readWithin least room s middle) _ second are w)
+        ∙ ap LayerRefused (ap refusalOf w))
 
     pub layer-read : {size next : ℕ} → second ≡ Value size next
         → Numbers bound size next ≡ layerRead (readLayer lo hi least room s at)
@@ -191,11 +192,12 @@ module _ (limits : LayerLimits) (layers room : ℕ) (s : List ℕ) (at : ℕ) (b
         rw is (ap (λ n. readLayers limits n rest s next) left ∙ readLayers-suc limits (layers - x - 1) rest s next)
 
     pub turn-refused : {why : Refusal} → layer ≡ LayerRefused why
-        → layerFailed layer ≡ layersRead (readLayers limits layers room s at)
+        → _≡_ {A = LayersRead} (record { answer = NoNext why; bound = five []; size = five [] })
+        (layersRead (readLayers limits layers room s at))
     turn-refused {why} e =
         let read = layerRead-refused (readLayer (limits .lo) (limits .hi) least rest s next) (sym e ∙ are) in
         let all : readLayers limits layers room s at ≡ refused why = sym (turn .same) ∙ rw (stage, read) in
-        rw (all, e)
+        rw all
 
     module _ {bound size after : ℕ} (e : layer ≡ Numbers bound size after) where
       read : readLayer (limits .lo) (limits .hi) least rest s next

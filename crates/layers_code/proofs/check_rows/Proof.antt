@@ -5,10 +5,10 @@ use native.Mathlib.Omega.{arith}
 use mathlib.Core.Path.{_≡_, sym, _∙_}
 use lib.ListN.{length, length-drop}
 use borrow.Author.Needs.{needs}
+use Rattle.lists.proofs.Writing.{take-drop-rest}
 use Rattle.layers.specs.Layers.{sizes}
 use Rattle.layers.specs.Answers.{arrayHeads}
 use Rattle.layers.proofs.Arrays.{sizes-arrayHeads}
-use Rattle.layers_code.proofs.CrowdLoop.{part-all}
 use Rattle.layers_code.proofs.RowsAnswers.{rows-small, rows-short, rows-long, rows-place, rows-bad, rows-ordered, rows-left}
 use Rattle.layers_code.proofs.check_rows.Statement.{statement}
 use Rattle.layers_code.proofs.check_rows.Tie as tie
@@ -59,7 +59,7 @@ part-first-bad-end c = search needs
 first-bad-requires : tie.Need-first-bad-requires
 first-bad-requires c κs =
     let a = c .before .before .before .before .before .args in
-    rw (part-all (a .bytes .now) (a .at), length-drop) (omega (arith, fits (c .before .before .before)))
+    rw (take-drop-rest (a .bytes .now) (a .at), length-drop) (omega (arith, fits (c .before .before .before)))
 
 enum-known-bad : tie.Need-enum-known-bad
 enum-known-bad c = search needs
@@ -73,7 +73,7 @@ place-fits c =
     let place = rows-place (a .n) (a .r) (arrayHeads (a .layers) (a .bound) (a .size)) (a .bytes .now) (a .at)
     (c .before .before .before .before .before .before .before .before .count-rows .result)
     (counted (c .before .before .before .before .before .before .before .before)) (omega arith) _
-    (part-all (a .bytes .now) (a .at)) (c .before .before .before .before .first-bad .result)
+    (take-drop-rest (a .bytes .now) (a .at)) (c .before .before .before .before .first-bad .result)
     (c .before .before .before .before .first-bad .ensures)
     (c .before .before .bad .given .1) in
     let small = fits (c .before .before .before .before .before .before .before .before) in
@@ -89,7 +89,7 @@ returns-3 : tie.Need-returns-3
 returns-3 c =
     let a = c .before .before .before .before .before .before .before .before .before .before .args in
     rows-bad _ _ _ _ _ _ (counted (c .before .before .before .before .before .before .before .before)) (omega arith) _
-    (part-all (a .bytes .now) (a .at)) _ (c .before .before .before .before .first-bad .ensures)
+    (take-drop-rest (a .bytes .now) (a .at)) _ (c .before .before .before .before .first-bad .ensures)
     (c .before .before .bad .given .1)
 
 enum-told : tie.Need-enum-told
@@ -104,7 +104,7 @@ check-layers-requires c κs =
     rw (← count) (omega arith) in
     let ordered = rows-ordered (a .n) (a .r) (arrayHeads (a .layers) (a .bound) (a .size)) (a .bytes .now) (a .at)
     (c .before .before .before .before .before .before .count-rows .result) count (omega arith) _
-    (part-all (a .bytes .now) (a .at)) (c .before .before .first-bad .result) (c .before .before .first-bad .ensures)
+    (take-drop-rest (a .bytes .now) (a .at)) (c .before .before .first-bad .result) (c .before .before .first-bad .ensures)
     (c .enum-told .given .1) in
     ((p .0 .0, p .0 .1), (p .1, (end, ordered)))
 
@@ -112,7 +112,7 @@ returns-4 : tie.Need-returns-4
 returns-4 c =
     let a = c .before .before .before .before .before .before .before .before .before .args in
     rows-left _ _ _ _ _ _ (counted (c .before .before .before .before .before .before .before)) (omega arith) _
-    (part-all (a .bytes .now) (a .at)) _ (c .before .before .before .first-bad .ensures)
+    (take-drop-rest (a .bytes .now) (a .at)) _ (c .before .before .before .first-bad .ensures)
     (c .before .enum-told .given .1) (c .check-layers .ensures)
 
 pub check-rows-spec : {M : Type 1} → statement M

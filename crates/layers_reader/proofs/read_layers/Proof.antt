@@ -1,7 +1,6 @@
 -- `layers_reader::read_layers` meets its contract. The loop's invariant: the layers read so far, in front of what is read from the
 -- present place on, are the whole. The measure is how many layers are left. Assumes nothing.
 use Prim.Native.Nat.{_-_}
-use mathlib.Core.Path.{_∙_}
 use borrow.Author.Needs.{needs}
 use Rattle.layers_reader.proofs.ReadLoop.{Turn, turn-holds, turn-done, turn-refused, turn-fits, turn-again}
 use Rattle.layers_reader.proofs.read_layers.Statement.{statement}
@@ -29,22 +28,18 @@ least-size-requires c κs = search needs
 read-layer-requires : tie.Need-read-layer-requires Inv-loop μ-loop
 read-layer-requires c κs = search needs
 
-enum-known-layer : tie.Need-enum-known-layer Inv-loop μ-loop
-enum-known-layer c = search needs
-
-enum-told : tie.Need-enum-told Inv-loop μ-loop
-enum-told c = search needs
-
-layer-failed-requires : tie.Need-layer-failed-requires Inv-loop μ-loop
-layer-failed-requires c κs = search needs
+enum-known-e : tie.Need-enum-known-e Inv-loop μ-loop
+enum-known-e c = search needs
 
 returns : tie.Need-returns Inv-loop μ-loop
 returns c =
     let t = c .before .before .before in
-    c .layer-failed .ensures
-    ∙ turn-refused _ _ _ _ _ _ _ _ _ _ (t .before .before .before .loop .inv) (t .before .before .loop-test .taken)
+    turn-refused _ _ _ _ _ _ _ _ _ _ (t .before .before .before .loop .inv) (t .before .before .loop-test .taken)
     (t .before .before .before .before .before .pre) _ (t .before .least-size .ensures) _ (t .read-layer .ensures)
-    (c .before .enum-told .given .1)
+    (c .before .e .given .1)
+
+enum-known-bound : tie.Need-enum-known-bound Inv-loop μ-loop
+enum-known-bound c = search needs
 
 mul-bounds : tie.Need-mul-bounds Inv-loop μ-loop
 mul-bounds c = search needs
@@ -63,7 +58,7 @@ sub-rest c =
     let t = c .before .before .before in
     turn-fits _ _ _ _ _ _ _ _ _ _ (t .before .before .before .loop .inv) (t .before .before .loop-test .taken)
     (t .before .before .before .before .before .pre) _ (t .before .least-size .ensures) _ (t .read-layer .ensures)
-    (c .before .layer .given .1)
+    (c .before .bound .given .1)
 
 add-x : tie.Need-add-x Inv-loop μ-loop
 add-x c = search needs
@@ -76,7 +71,7 @@ loop-again c =
     let t = c .before .before .before in
     turn-again _ _ _ _ _ _ _ _ _ _ (t .before .before .before .loop .inv) (t .before .before .loop-test .taken)
     (t .before .before .before .before .before .pre) _ (t .before .least-size .ensures) _ (t .read-layer .ensures)
-    (c .before .layer .given .1)
+    (c .before .bound .given .1)
 
 returns-2 : tie.Need-returns-2 Inv-loop μ-loop
 returns-2 c = turn-done _ _ _ _ _ _ _ _ _ _ (c .before .loop .inv) (c .loop-test .left)
@@ -92,10 +87,9 @@ read-layers-spec =
     sub-least-size-2
     least-size-requires
     read-layer-requires
-    enum-known-layer
-    enum-told
-    layer-failed-requires
+    enum-known-e
     returns
+    enum-known-bound
     mul-bounds
     array-write-bounds
     mul-sizes

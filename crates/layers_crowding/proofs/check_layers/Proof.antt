@@ -1,12 +1,13 @@
--- `layers_code::check_layers` meets its contract. The loop's invariant: the first crowded row of the layers from the present one
+-- `layers_crowding::check_layers` meets its contract. The loop's invariant: the first crowded row of the layers from the present one
 -- on is that of all layers. The measure is how many layers are left. Assumes nothing.
 use Prim.Native.Nat.{_+_, _*_, _-_, _^_, _≤_, _<_}
 use native.Mathlib.Omega.{arith}
 use borrow.Author.Needs.{needs}
 use lib.ListN.{length, getD, length-drop}
-use Rattle.layers_code.proofs.CrowdLoop.{part-all, Turn, turn-holds, turn-done, turn-fits, turn-ordered, turn-place, turn-crowded, turn-again}
-use Rattle.layers_code.proofs.check_layers.Statement.{statement}
-use Rattle.layers_code.proofs.check_layers.Tie as tie
+use Rattle.lists.proofs.Writing.{take-drop-rest}
+use Rattle.layers_crowding.proofs.CrowdLoop.{Turn, turn-holds, turn-done, turn-fits, turn-ordered, turn-place, turn-crowded, turn-again}
+use Rattle.layers_crowding.proofs.check_layers.Statement.{statement}
+use Rattle.layers_crowding.proofs.check_layers.Tie as tie
 
 abbrev Inv-loop : tie.InvT-loop
 Inv-loop bytes at r layers bound size start₀ x₀ start x = Turn r layers bound size bytes at start x
@@ -53,7 +54,7 @@ first-crowded-requires c κs =
     let l = c .before .before .loop in
     let test = c .before .loop-test .taken in
     let fits = fitting (c .before) in
-    let part = part-all (a .bytes .now) (l .start) in (
+    let part = take-drop-rest (a .bytes .now) (l .start) in (
       (fits .0, c .before .before .before .before .pre .0 .1, omega arith, rw (part, length-drop) (omega arith)),
       rw part (turn-ordered _ _ _ _ _ _ _ _ (l .inv) test),
     )
@@ -73,7 +74,7 @@ place-fits c =
     let fits = fitting (c .before .before .before .before .before .before) in
     let place = turn-place _ _ _ _ _ _ _ _ (l .inv)
     (c .before .before .before .before .before .before .loop-test .taken) _
-    (part-all (a .bytes .now) (l .start)) _ (c .before .before .before .before .first-crowded .ensures)
+    (take-drop-rest (a .bytes .now) (l .start)) _ (c .before .before .before .before .first-crowded .ensures)
     (c .before .before .found .given .1) in
     (omega arith, omega (arith, c .before .before .before .before .before .before .before .before .before .good .0))
 
@@ -92,7 +93,7 @@ returns c =
     let a = c .before .before .before .before .before .before .before .before .before .args in
     let l = c .before .before .before .before .before .before .before .loop in
     turn-crowded _ _ _ _ _ _ _ _ (l .inv) (c .before .before .before .before .before .before .loop-test .taken) _
-    (part-all (a .bytes .now) (l .start)) _
+    (take-drop-rest (a .bytes .now) (l .start)) _
     (c .before .before .before .before .first-crowded .ensures) (c .before .before .found .given .1)
 
 enum-told : tie.Need-enum-told Inv-loop μ-loop
@@ -119,7 +120,7 @@ loop-again c =
     let a = c .before .before .before .before .before .before .before .args in
     let l = c .before .before .before .before .before .loop in
     turn-again _ _ _ _ _ _ _ _ (l .inv) (c .before .before .before .before .loop-test .taken) _
-    (part-all (a .bytes .now) (l .start)) _
+    (take-drop-rest (a .bytes .now) (l .start)) _
     (c .before .before .first-crowded .ensures) (c .enum-told .given .1)
 
 returns-2 : tie.Need-returns-2 Inv-loop μ-loop

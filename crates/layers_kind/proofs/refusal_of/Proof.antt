@@ -1,9 +1,9 @@
--- `layers_reader::refusal_of` meets its contract: each arm is a case of `refusalOf`. Assumes nothing.
+-- `layers_kind::refusal_of` meets its contract: each arm is a case of `refusalOf`. Assumes nothing.
 use borrow.Author.Needs.{needs}
 use mathlib.Core.Path.{sym, ap}
 use Rattle.layers.specs.Answers.{refusalOf}
-use Rattle.layers_reader.proofs.refusal_of.Statement.{statement}
-use Rattle.layers_reader.proofs.refusal_of.Tie as tie
+use Rattle.layers_kind.proofs.refusal_of.Statement.{statement}
+use Rattle.layers_kind.proofs.refusal_of.Tie as tie
 
 enum-known-read : tie.Need-enum-known-read
 enum-known-read c = search needs

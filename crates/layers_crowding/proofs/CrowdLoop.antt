@@ -3,12 +3,12 @@
 use Prim.Native.Nat.{ℕ, suc, _+_, _*_, _-_, _≤_, _<_}
 use native.Mathlib.Omega.{arith}
 use native.Mathlib.Numerals.{add-one}
-use native.Mathlib.Nat.{mul-le-mul-right, le-refl, le-of-lt}
+use native.Mathlib.Nat.{mul-le-mul-right, le-of-lt}
 use mathlib.Core.Path.{_≡_, refl, sym, _∙_, ap}
 use mathlib.Core.List.{List, [], _∷_, flatten}
 use mathlib.Core.Option.{Option, none, some}
-use lib.ListN.{length, take, drop, getD, length-drop}
-use lib.Seq.{drop-drop, take-all}
+use lib.ListN.{length, drop, getD}
+use lib.Seq.{drop-drop}
 use lib.Dec.{T}
 use Rattle.lists.specs.Lists.{All, total}
 use Rattle.lists.proofs.Alls.{all-append-left, all-append-right}
@@ -25,10 +25,6 @@ use Rattle.layers.specs.Layers.{Layer, LayerHead, sizes, allRows, layersAt, fir
 use Rattle.layers.specs.Answers.{arrayHeads, rowsAnswer}
 use Rattle.layers.specs.declared.RowsAnswer.the-variants.{Good, Refused}
 use Rattle.layers.proofs.Arrays.{headAt, drop-arrayHeads, drop-arrayHeads-all}
-
--- a part up to the end
-pub part-all : {A : Type 0} (s : List A) (start : ℕ) → take (length s - start) (drop start s) ≡ drop start s
-part-all s start = take-all (length s - start) (drop start s) (rw length-drop (le-refl (length s - start)))
 
 -- the code's answer says what was found
 pub rowFound-at : (o : Option ℕ) {row : Record} → At row ≡ rowFound o → o ≡ some (row .0)

@@ -1,9 +1,9 @@
--- `layers_reader::read_kind` meets its contract: each return is a case of `readKind`, over what `read_number` ensures. Assumes
+-- `layers_kind::read_kind` meets its contract: each return is a case of `readKind`, over what `read_number` ensures. Assumes
 -- nothing.
 use borrow.Author.Needs.{needs}
 use Rattle.layers.proofs.Readings.{kind-not-read, kind-is, kind-is-not}
-use Rattle.layers_reader.proofs.read_kind.Statement.{statement}
-use Rattle.layers_reader.proofs.read_kind.Tie as tie
+use Rattle.layers_kind.proofs.read_kind.Statement.{statement}
+use Rattle.layers_kind.proofs.read_kind.Tie as tie
 
 read-number-requires : tie.Need-read-number-requires
 read-number-requires c κs = search needs
