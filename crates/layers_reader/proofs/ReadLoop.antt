@@ -25,22 +25,21 @@ use Rattle.layers.proofs.Readings.{bind-not-read, bind-read}
 -- The answers of `read_layer`, over what `read_within` answered.
 module _ (lo hi least room : ℕ) (s : List ℕ) (at : ℕ) (first : NumberRead)
     (is : first ≡ numberRead (readWithin lo hi s at)) where
-  pub bound-not-read : {why : Refusal} → first ≡ NotRead why
-      → LayerRefused why ≡ layerRead (readLayer lo hi least room s at)
+  pub bound-not-read : {why e : Refusal} → first ≡ NotRead why → e ≡ refusalOf first
+      → LayerRefused e ≡ layerRead (readLayer lo hi least room s at)
   unfolding readLayer
-  bound-not-read w =
-      sym (ap layerRead (bind-not-read (readWithin lo hi s at) _ first is w) ∙ ap LayerRefused (ap refusalOf w))
+  bound-not-read w k = ap LayerRefused k ∙ sym (ap layerRead (bind-not-read (readWithin lo hi s at) _ first is w))
 
   module _ {bound middle : ℕ} (b : first ≡ Value bound middle) (second : NumberRead)
       (are : second ≡ numberRead (readWithin least room s middle)) where
-    pub size-not-read : {why : Refusal} → second ≡ NotRead why
-        → LayerRefused why ≡ layerRead (readLayer lo hi least room s at)
+    pub size-not-read : {why e : Refusal} → second ≡ NotRead why → e ≡ refusalOf second
+        → LayerRefused e ≡ layerRead (readLayer lo hi least room s at)
     unfolding readLayer
-    size-not-read w =
-        sym
+    size-not-read w k =
+        ap LayerRefused k
+        ∙ sym
         (ap layerRead
-        (bind-read (readWithin lo hi s at) _ first is b ∙ bind-not-read (readWithin least room s middle) _ second are w)
-        ∙ ap LayerRefused (ap refusalOf w))
+        (bind-read (readWithin lo hi s at) _ first is b ∙ bind-not-read (readWithin least room s middle) _ second are w))
 
     pub layer-read : {size next : ℕ} → second ≡ Value size next
         → Numbers bound size next ≡ layerRead (readLayer lo hi least room s at)

@@ -8,10 +8,6 @@ ghost use Prim.Native.Nat.{_≤_};
 ghost use Rattle.layers.specs.Layers.{leastSize, readLayers};
 ghost use Rattle.layers.specs.Answers.{readLayer, layerRead, layersRead};
 
-// The checks of placements name these here.
-pub use layers_kind::read_kind;
-pub use layers_kind::refusal_of;
-
 // The least size of a layer with `after` layers after it and `room` left.
 fn least_size(full: bool, after: usize, room: usize) -> usize
     ensures { λ r. ⌜ r ≡ leastSize full after room ⌝ }
@@ -29,15 +25,15 @@ fn least_size(full: bool, after: usize, room: usize) -> usize
 fn read_layer(bytes: &[u8], at: usize, lo: usize, hi: usize, least: usize, room: usize) -> LayerRead
     ensures { λ r. ⌜ r ≡ layerRead (readLayer lo hi least room (now (bytes .entry)) at) ⌝ }
 {
-    match number_reader::read_within(bytes, at, lo, hi) {
-        NumberRead::Refused(e) => LayerRead::Refused(e),
-        NumberRead::Value(bound, middle) => {
-            match number_reader::read_within(bytes, middle, least, room) {
-                NumberRead::Refused(e) => LayerRead::Refused(e),
-                NumberRead::Value(size, next) => LayerRead::Numbers(bound, size, next),
-            }
-        }
-    }
+    let first = number_reader::read_within(bytes, at, lo, hi);
+    let NumberRead::Value(bound, middle) = first else {
+        return LayerRead::Refused(layers_kind::refusal_of(first));
+    };
+    let second = number_reader::read_within(bytes, middle, least, room);
+    let NumberRead::Value(size, next) = second else {
+        return LayerRead::Refused(layers_kind::refusal_of(second));
+    };
+    LayerRead::Numbers(bound, size, next)
 }
 
 // The two numbers of each of up to five layers from `at` on: each bound from `lo` to `hi`, the sizes summing to at most

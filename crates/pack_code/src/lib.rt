@@ -49,20 +49,22 @@ fn after_r(bytes: &[u8], n: usize, r: usize, at: usize) -> PackCheck
 fn after_n(bytes: &[u8], n: usize, at: usize) -> PackCheck
     ensures { λ check. ⌜ check ≡ packChecked (now (bytes .entry)) (afterN (now (bytes .entry)) n at) ⌝ }
 {
-    match number_reader::read_within(bytes, at, 2, minmax::smaller(5, n)) {
-        NumberRead::Refused(e) => refuse(e),
-        NumberRead::Value(r, next) => after_r(bytes, n, r, next),
-    }
+    let read = number_reader::read_within(bytes, at, 2, minmax::smaller(5, n));
+    let NumberRead::Value(r, next) = read else {
+        return refuse(layers_kind::refusal_of(read));
+    };
+    after_r(bytes, n, r, next)
 }
 
 // The check of a pack from n on, which starts at `at`.
 fn after_kind(bytes: &[u8], at: usize) -> PackCheck
     ensures { λ check. ⌜ check ≡ packChecked (now (bytes .entry)) (afterKind (now (bytes .entry)) at) ⌝ }
 {
-    match number_reader::read_within(bytes, at, 2, 255) {
-        NumberRead::Refused(e) => refuse(e),
-        NumberRead::Value(n, next) => after_n(bytes, n, next),
-    }
+    let read = number_reader::read_within(bytes, at, 2, 255);
+    let NumberRead::Value(n, next) = read else {
+        return refuse(layers_kind::refusal_of(read));
+    };
+    after_n(bytes, n, next)
 }
 
 // Checks a pack: its head's numbers in the file's order, then its blocks.
@@ -72,8 +74,9 @@ fn after_kind(bytes: &[u8], at: usize) -> PackCheck
 pub fn check_pack(bytes: &[u8]) -> PackCheck
     ensures { λ check. ⌜ check ≡ packChecked (now (bytes .entry)) (checkPack (now (bytes .entry))) ⌝ }
 {
-    match layers_kind::read_kind(bytes, 1) {
-        NumberRead::Refused(e) => refuse(e),
-        NumberRead::Value(_, next) => after_kind(bytes, next),
-    }
+    let read = layers_kind::read_kind(bytes, 1);
+    let NumberRead::Value(_, next) = read else {
+        return refuse(layers_kind::refusal_of(read));
+    };
+    after_kind(bytes, next)
 }

@@ -14,7 +14,7 @@ fn after_n(bytes: &[u8], n: usize, at: usize) -> PlacementCheck
 {
     let read = number_reader::read_within(bytes, at, 2, minmax::smaller(5, n));
     let NumberRead::Value(r, next) = read else {
-        return placement_refusal::refuse(layers_reader::refusal_of(read));
+        return placement_refusal::refuse(layers_kind::refusal_of(read));
     };
     placement_from_s::after_r(bytes, n, r, next)
 }
@@ -25,7 +25,7 @@ fn after_kind(bytes: &[u8], at: usize) -> PlacementCheck
 {
     let read = number_reader::read_within(bytes, at, 2, 255);
     let NumberRead::Value(n, next) = read else {
-        return placement_refusal::refuse(layers_reader::refusal_of(read));
+        return placement_refusal::refuse(layers_kind::refusal_of(read));
     };
     after_n(bytes, n, next)
 }
@@ -38,9 +38,9 @@ fn after_kind(bytes: &[u8], at: usize) -> PlacementCheck
 pub fn check_placement(bytes: &[u8]) -> PlacementCheck
     ensures { λ check. ⌜ check ≡ placementChecked (now (bytes .entry)) (checkPlacement (now (bytes .entry))) ⌝ }
 {
-    let read = layers_reader::read_kind(bytes, 2);
+    let read = layers_kind::read_kind(bytes, 2);
     let NumberRead::Value(_, next) = read else {
-        return placement_refusal::refuse(layers_reader::refusal_of(read));
+        return placement_refusal::refuse(layers_kind::refusal_of(read));
     };
     after_kind(bytes, next)
 }

@@ -23,7 +23,7 @@ fn after_b(
 {
     let read = number_reader::read_within(bytes, at, 0, b);
     let NumberRead::Value(figure, next) = read else {
-        return placement_refusal::refuse(layers_reader::refusal_of(read));
+        return placement_refusal::refuse(layers_kind::refusal_of(read));
     };
     let head = Head {
         n,
@@ -45,7 +45,7 @@ pub fn after_k(bytes: &[u8], n: usize, r: usize, s: usize, k: usize, at: usize) 
 {
     let read = number_reader::read_within(bytes, at, 1, 4_096);
     let NumberRead::Value(b, next) = read else {
-        return placement_refusal::refuse(layers_reader::refusal_of(read));
+        return placement_refusal::refuse(layers_kind::refusal_of(read));
     };
     after_b(bytes, n, r, s, k, b, next)
 }

@@ -14,7 +14,7 @@ fn after_s(bytes: &[u8], n: usize, r: usize, s: usize, at: usize) -> PlacementCh
 {
     let read = number_reader::read_within(bytes, at, s, n - 1);
     let NumberRead::Value(k, next) = read else {
-        return placement_refusal::refuse(layers_reader::refusal_of(read));
+        return placement_refusal::refuse(layers_kind::refusal_of(read));
     };
     placement_from_b::after_k(bytes, n, r, s, k, next)
 }
@@ -26,7 +26,7 @@ pub fn after_r(bytes: &[u8], n: usize, r: usize, at: usize) -> PlacementCheck
 {
     let read = number_reader::read_within(bytes, at, 1, r);
     let NumberRead::Value(s, next) = read else {
-        return placement_refusal::refuse(layers_reader::refusal_of(read));
+        return placement_refusal::refuse(layers_kind::refusal_of(read));
     };
     after_s(bytes, n, r, s, next)
 }
