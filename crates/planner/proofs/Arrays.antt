@@ -14,12 +14,12 @@ use Rattle.layers.specs.Layers.{LayerHead, size, sizes, allRows, headsOf, layer
 use Rattle.layers.proofs.Layouts.{headsOf-layersAt}
 use Rattle.pack.specs.Pack.{Pack}
 use Rattle.split.proofs.Terms.{layerAt-arrayHeads}
-use Rattle.split.specs.Splits.{Share, layerAt, copiesFor, shareHead, splitHeads}
+use Rattle.split.specs.Splits.{Share, layerAt, copiesFor, shareHead, splitHeads, countsSplit}
 use Rattle.split.proofs.Bounds.{copiesFor-mul-bound-le}
 use Rattle.lists.proofs.UpTo.{take-map-upTo}
 use Rattle.layers.specs.Answers.{arrayHeads}
 use Rattle.planner.specs.Planning.{blocksAt, placed, splitPlacement}
-use Rattle.planner.specs.Writing.{totalBelow, lambdaOf, layerRows, arrayPack, leastCopies, countsPlacement, Writable}
+use Rattle.planner.specs.Writing.{totalBelow, lambdaOf, layerRows, arrayPack, countsPlacement, Writable}
 use Rattle.planner.proofs.Layering.{totalBelow-mono, totalBelow-suc}
 
 -- the blocks of layer x begin after those of the layers below it
@@ -70,7 +70,7 @@ module _ {n r : ℕ} {mu m blocks : List ℕ} {s k b : ℕ} {counts : List ℕ} 
   heads = headsOf (pack n r mu m blocks .layers)
 
   abbrev split : ℕ → Share
-  split = leastCopies heads counts
+  split = countsSplit heads counts
 
   within : (x : ℕ) → x < s → x < r
   within x h = omega (arith, w .order .s-most)

@@ -16,10 +16,11 @@ use Rattle.placement.proofs.Written.{written-file, written-length}
 use Rattle.lists.proofs.Writing.{take-drop-rest, write-part}
 use Rattle.rows.proofs.Written.{givenBack}
 use Rattle.layers.specs.Answers.{arrayHeads}
+use Rattle.split.specs.Splits.{countsSplit}
 use Rattle.planner.specs.Planning.{splitPlacement, outputNeeded, outputAfter}
 use Rattle.planner.specs.Answers.{planAnswer}
 use Rattle.planner.specs.declared.PlanAnswer.the-variants.{Planned}
-use Rattle.planner.specs.Writing.{formsOf, beginning, headList, totalBelow, lambdaOf, rowsBelow, arrayPack, leastCopies, countsPlacement, Writable}
+use Rattle.planner.specs.Writing.{formsOf, beginning, headList, totalBelow, lambdaOf, rowsBelow, arrayPack, countsPlacement, Writable}
 use Rattle.planner.proofs.Layering.{length-rowsBelow}
 use Rattle.planner.proofs.Placed.{heads-placed, placed-good}
 use Rattle.planner.proofs.Arrays.{layerAt-is, s-le-five, counts-sum, some-blocks, blocks-fit, lambda-most, allRows-are, splitHeads-are, sizes-within, bounds-most}
@@ -53,7 +54,7 @@ module _ {n r : ℕ} {mu m blocks : List ℕ} {s k b : ℕ} {counts : List ℕ} 
   -- the placement of any split with the least copies is good
   pub committed-good : GoodPlacement placement
   committed-good =
-      placed-good pack s k b (leastCopies (headsOf (pack .layers)) counts) (w .held .good) (w .order) (w .is-split)
+      placed-good pack s k b (countsSplit (headsOf (pack .layers)) counts) (w .held .good) (w .order) (w .is-split)
       (λ x h. rw (layerAt-is n r mu m blocks x (omega (arith, w .order .s-most))) (lambda-most w x h))
 
   rows-length : length (rowsBelow r blocks m counts s) ≡ b * r
@@ -94,7 +95,7 @@ module _ {n r : ℕ} {mu m blocks : List ℕ} {s k b : ℕ} {counts : List ℕ} 
       head-is : placementNumbers placement ≡ head
       unfolding splitPlacement
       head-is =
-          rw (figure-is, heads-placed pack s k b (leastCopies (headsOf (pack .layers)) counts), splitHeads-are w lambda are)
+          rw (figure-is, heads-placed pack s k b (countsSplit (headsOf (pack .layers)) counts), splitHeads-are w lambda are)
 
       head-fits : length (formsOf head) + b * r ≤ outputNeeded b r
       head-fits = subst (λ (l : List ℕ). length (formsOf l) + b * r ≤ outputNeeded b r) head-is bytes-fit

@@ -11,9 +11,9 @@ use Rattle.lists.proofs.UpTo.{length-map-upTo, all-upTo, getD-map-upTo, map-upT
 use Rattle.packing.specs.Rows.{Row, Packing}
 use Rattle.packing.proofs.Copies.{copies-packing, repeated-rows, length-repeated}
 use Rattle.layers.specs.Layers.{Layer, LayerHead, size, allRows, headsOf, Packings}
-use Rattle.pack.specs.Pack.{Pack, PackLimits, GoodPack}
+use Rattle.pack.specs.Pack.{Pack, GoodPack}
 use Rattle.placement.specs.Figure.{figureOf}
-use Rattle.placement.specs.Placement.{Placement, PlacementLimits, GoodPlacement}
+use Rattle.placement.specs.Placement.{PlacementLimits, GoodPlacement}
 use Rattle.split.specs.Splits.{Share, layerAt, shareHead, splitHeads, Split}
 use Rattle.planner.specs.Planning.{blocksAt, placed, splitPlacement, OrderLimits}
 

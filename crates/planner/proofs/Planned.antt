@@ -10,12 +10,11 @@ use borrow.Author.Tests.{le-leb, lt-ltb}
 use Rattle.lists.specs.Lists.{All}
 use Rattle.lists.proofs.Tests.{true-T}
 use Rattle.lists.proofs.Alls.{all-imp}
-use Rattle.refusal.specs.Checked.{Checked, accepted, _>>=_}
-use Rattle.number.specs.Numbers.{Bytes}
+use Rattle.refusal.specs.Checked.{accepted, _>>=_}
 use Rattle.packing.specs.Failures.{Failure, usable}
 use Rattle.layers.specs.Layers.{Layer, allRows, headsOf}
 use Rattle.pack.specs.Pack.{Pack, GoodPack, checkPack}
-use Rattle.placement.specs.Placement.{Placement, GoodPlacement, checkPlacement, placementBytes}
+use Rattle.placement.specs.Placement.{GoodPlacement, checkPlacement, placementBytes}
 use Rattle.placement.proofs.Written.{written-file, written-bytes, written-length}
 use Rattle.placement.proofs.Accepted.{placement-accepted-iff}
 use Rattle.placement.proofs.Survivors.{survivors}

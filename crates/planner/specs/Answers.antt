@@ -1,6 +1,5 @@
 -- The answer of planning as a value of the code's types, and what each case says. Assumes nothing.
-use Prim.Native.Nat.{ℕ}
-use mathlib.Core.List.{List, [], _∷_, map}
+use mathlib.Core.List.{[], _∷_, map}
 use lib.ListN.{length}
 use Rattle.refusal.specs.Refusals.{Outcome, result, refusalOutcome}
 use Rattle.refusal.specs.Checked.{Checked, accepted, refused}

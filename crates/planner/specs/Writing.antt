@@ -5,11 +5,11 @@ use lib.ListN.{length, getD, drop}
 use Rattle.lists.specs.Lists.{total, upTo}
 use Rattle.number.specs.Numbers.{numberBytes}
 use Rattle.packing.specs.Rows.{rowsAt, repeated}
-use Rattle.layers.specs.Layers.{LayerHead, sizes, headsOf, headNumbers, layersAt}
+use Rattle.layers.specs.Layers.{sizes, headsOf, headNumbers, layersAt}
 use Rattle.layers.specs.Answers.{arrayHeads}
 use Rattle.pack.specs.Pack.{Pack, GoodPack}
 use Rattle.placement.specs.Placement.{Placement}
-use Rattle.split.specs.Splits.{Share, Split, layerAt, copiesFor, shareOf}
+use Rattle.split.specs.Splits.{Split, copiesFor, countsSplit}
 use Rattle.planner.specs.Planning.{OrderLimits, splitPlacement}
 
 -- the numbers' shortest forms one after another
@@ -41,13 +41,9 @@ rowsBelow r blocks m counts x = flatten (flatten (map (layerRows r blocks m coun
 abbrev pub arrayPack : (n r : ℕ) (mu m blocks : List ℕ) → Pack
 arrayPack n r mu m blocks = record { n = n; r = r; layers = layersAt r (arrayHeads r mu m) blocks }
 
--- the split with these counts, "with the least d for each c"
-abbrev pub leastCopies : List LayerHead → (counts : List ℕ) → ℕ → Share
-leastCopies layers counts x = shareOf (layerAt layers x) (getD counts x 0)
-
 -- the placement of the split with these counts
 abbrev pub countsPlacement : Pack → (s k b : ℕ) (counts : List ℕ) → Placement
-countsPlacement pack s k b counts = splitPlacement pack s k b (leastCopies (headsOf (pack .layers)) counts)
+countsPlacement pack s k b counts = splitPlacement pack s k b (countsSplit (headsOf (pack .layers)) counts)
 
 -- the numbers of a placement's head, from the code's arrays
 abbrev pub headList : (n r s k b figure : ℕ) (lambda c : List ℕ) → List ℕ
@@ -65,4 +61,4 @@ pub record Writable (n r : ℕ) (mu m blocks : List ℕ) (s k b : ℕ) (counts :
   pub held : PackHeld n r mu m blocks
   pub order : OrderLimits (arrayPack n r mu m blocks) s k b
   pub is-split : Split (headsOf (arrayPack n r mu m blocks .layers)) s b
-      (leastCopies (headsOf (arrayPack n r mu m blocks .layers)) counts)
+      (countsSplit (headsOf (arrayPack n r mu m blocks .layers)) counts)

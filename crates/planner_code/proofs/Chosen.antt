@@ -18,7 +18,7 @@ use Rattle.layers.proofs.Arrays.{getD-five}
 use Rattle.pack.specs.Pack.{Pack}
 use Rattle.placement.specs.Figure.{figureOf}
 use Rattle.placement.specs.Placement.{Placement}
-use Rattle.split.specs.Splits.{Share, Split, layerAt, namedCounts, namedSplit, shareOf}
+use Rattle.split.specs.Splits.{Share, Split, layerAt, namedCounts, namedSplit, shareOf, countsSplit}
 use Rattle.split.specs.Table.{Limits}
 use Rattle.split.proofs.Arrays.{namedCounts-congr}
 use Rattle.split.proofs.Heads.{splitHeads-congr}
@@ -29,7 +29,7 @@ use Rattle.lists.proofs.UpTo.{take-map-upTo}
 use Rattle.planner.specs.Planning.{blocksAt, placed, splitPlacement, namedPlacement, workNeeded, outputAfter, WorkAfter}
 use Rattle.planner.specs.Answers.{planAnswer}
 use Rattle.planner.specs.Steps.{checkSteps, planPack, orderAnswer}
-use Rattle.planner.specs.Writing.{arrayPack, leastCopies, countsPlacement, Writable, PackHeld}
+use Rattle.planner.specs.Writing.{arrayPack, countsPlacement, Writable, PackHeld}
 use Rattle.planner.specs.declared.PlanAnswer.{PlanAnswer}
 use Rattle.planner.specs.declared.PlanResult.{PlanResult}
 use Rattle.planner.specs.declared.OrderAnswer.{OrderAnswer}
@@ -134,7 +134,7 @@ module _ {n r : ℕ} {mu m blocks : List ℕ} {s k b work output : ℕ} (o : Ord
     counts-are : counts ≡ five (namedCounts heads s k s b)
     counts-are = chosen ∙ ap five (namedCounts-congr (arrayHeads 5 mu m) heads s k s b agree)
 
-    shares-are : (x : ℕ) → x < s → leastCopies heads counts x ≡ namedSplit heads s k b x
+    shares-are : (x : ℕ) → x < s → countsSplit heads counts x ≡ namedSplit heads s k b x
     unfolding namedSplit
     shares-are x l =
         ap (shareOf (layerAt heads x))
@@ -147,13 +147,13 @@ module _ {n r : ℕ} {mu m blocks : List ℕ} {s k b work output : ℕ} (o : Ord
           held = o .held;
           order = order-fits .order;
           is-split =
-              split-congr heads s b (namedSplit heads s k b) (leastCopies heads counts) shares-are
+              split-congr heads s b (namedSplit heads s k b) (countsSplit heads counts) shares-are
               (namedSplit-is-split heads s k b (order-fits .order .b-most) (order-fits .block));
         }
 
     placement-is : countsPlacement pack s k b counts ≡ namedPlacement pack s k b
     unfolding namedPlacement
-    placement-is = splitPlacement-congr pack s k b (leastCopies heads counts) (namedSplit heads s k b) shares-are
+    placement-is = splitPlacement-congr pack s k b (countsSplit heads counts) (namedSplit heads s k b) shares-are
 
     -- the answer and the slices afterwards
     pub result-is : (answer : PlanAnswer) → answer ≡ planAnswer (accepted (countsPlacement pack s k b counts)) .answer

@@ -1,4 +1,4 @@
-// The checks before planning: refusals 12, 9, 10 and 11.
+// The checks before planning: refusal 12, then 9, 10 and 11.
 use planner::OrderAnswer;
 use refusal::Refusal;
 ghost use mathlib.Core.Path.{_≡_};
@@ -7,36 +7,8 @@ ghost use mathlib.Core.List.{List};
 ghost use lib.ListN.{getD};
 ghost use lib.Dec.{ltb};
 ghost use Rattle.lists.specs.Lists.{any, upTo};
-ghost use Rattle.layers.specs.Layers.{Layer};
-ghost use Rattle.planner.specs.Planning.{checkOrder};
 ghost use Rattle.planner.specs.Steps.{orderAnswer, checkSteps};
 ghost use Rattle.planner.specs.Writing.{arrayPack};
-
-// s 1..r, k s..n-1 and b 1..4,096, or refusal 12.
-fn check_limits(n: usize, r: usize, s: usize, k: usize, b: usize) -> OrderAnswer
-    ensures { λ answer. ⌜ ((layers : List Layer)
-        → answer ≡ orderAnswer (checkOrder (record { n = n; r = r; layers = layers }) s k b)) ⌝ }
-{
-    if s < 1 {
-        return OrderAnswer::Refused(Refusal::BadOrder(0));
-    }
-    if r < s {
-        return OrderAnswer::Refused(Refusal::BadOrder(0));
-    }
-    if k < s {
-        return OrderAnswer::Refused(Refusal::BadOrder(1));
-    }
-    if n <= k {
-        return OrderAnswer::Refused(Refusal::BadOrder(1));
-    }
-    if b < 1 {
-        return OrderAnswer::Refused(Refusal::BadOrder(2));
-    }
-    if 4096 < b {
-        return OrderAnswer::Refused(Refusal::BadOrder(2));
-    }
-    OrderAnswer::Good
-}
 
 // Whether some layer below s has a block.
 fn has_block(m: [usize; 5], s: usize) -> bool
@@ -68,7 +40,7 @@ pub fn check_order(
     ensures { λ answer. ⌜ ((mu blocks : List ℕ)
         → answer ≡ orderAnswer (checkSteps (arrayPack n r mu m blocks) s k b work output)) ⌝ }
 {
-    let limits = check_limits(n, r, s, k, b);
+    let limits = planner_limits::check_limits(n, r, s, k, b);
     let OrderAnswer::Good = limits else {
         return limits;
     };

@@ -4,9 +4,7 @@ use Prim.Native.Nat.{ℕ, zero, suc, _+_, _-_, _<_}
 use native.Mathlib.Nat.{lt-suc-self}
 use native.Mathlib.Omega.{arith}
 use mathlib.Core.Path.{_≡_, refl, sym, ap, ap₂, _∙_}
-use mathlib.Core.Bool.{Bool}
 use mathlib.Core.List.{List, [], _∷_, _++_}
-use lib.ListN.{List·getD-append, List·getD-eq-default}
 use Rattle.binomial.specs.Choose.{choose}
 use Rattle.layers.specs.Layers.{LayerHead}
 use Rattle.split.specs.Splits.{layerAt, lossOf, leastLoss, bestCount, namedCounts}

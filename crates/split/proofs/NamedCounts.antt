@@ -10,14 +10,10 @@ use lib.Seq.{getD-at}
 use Rattle.lists.specs.Lists.{total, upTo}
 use Rattle.layers.specs.Layers.{LayerHead}
 use Rattle.placement.specs.Figure.{losses}
-use Rattle.split.specs.Splits.{Share, Split, Foremost, layerAt, splitHeads, shareOf, noSplit, lossOf, leastLoss, bestCount, namedCounts}
+use Rattle.split.specs.Splits.{Share, Split, Foremost, layerAt, splitHeads, shareOf, countsSplit, noSplit, lossOf, leastLoss, bestCount, namedCounts}
 use Rattle.split.proofs.LossOf.{lossOf-lt, lossOf-le-lossWith}
 use Rattle.split.proofs.Heads.{losses-suc, splitHeads-congr, split-last-le, split-init, split-snoc}
 use Rattle.split.proofs.LeastLoss.{bestCount-le, lossAt-bestCount, le-bestCount, leastLoss-suc-le, leastLoss-zero-lt, leastLoss-zero-zero, leastLoss-le-losses}
-
--- counts with the least copies of each
-abbrev pub countsSplit : List LayerHead → List ℕ → ℕ → Share
-countsSplit layers counts x = shareOf (layerAt layers x) (getD counts x 0)
 
 -- Foremost speaks of the layers below x only
 pub foremost-congr : (x : ℕ) (a b other : ℕ → Share) → ((y : ℕ) → y < x → a y ≡ b y) → Foremost x b other → Foremost x a other

@@ -82,3 +82,9 @@ module _ (a : ℕ) (l : List ℕ) (f : ℕ → ℕ) where
 
   pub put-next : (i v : ℕ) {work : List ℕ} → a + i < length l → work ≡ putFirst i → v ≡ f i → set work (a + i) v ≡ putFirst (i + 1)
   put-next i v h e q = rw (e, q, add-one i) (put-suc i h)
+
+-- the entry below place i, which the entries written before it leave as it was
+pub under-eq : (at w : ℕ) (before : List ℕ) (f : ℕ → ℕ) (i : ℕ) {work : List ℕ} → w ≤ at → at + w ≤ length before → i < w
+    → work ≡ putFirst at before f i → getD work (at - w + i) 0 ≡ getD (part (at - w) w before) i 0
+under-eq at w before f i back fits turn e =
+    getD-before at before f i (at - w + i) (omega arith) e (omega arith) ∙ sym (getD-part (at - w) w before i turn)

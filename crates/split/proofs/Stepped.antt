@@ -174,3 +174,8 @@ pub lastLeast-steps : (t : LossTerms) (below : List ℕ) (b : ℕ) → b ≤ 4_0
     → lastLeast (stepSum (stepsOf t) below b) b ≡ lastLeast (sumAt t below b) b
 lastLeast-steps t below b small =
     lastLeast-congr _ _ b (λ c l. ap (λ n. n + getD below (b - c) 0) (sym (termLoss-steps t c (omega arith))))
+
+-- one record more
+pub record-step : (each : ℕ) (below : List ℕ) (i : ℕ) {records under more : ℕ} → records ≡ stepped 1 1 each below (i - 1) → under ≡ getD below i 0
+    → more ≡ min under (records + each) → more ≡ stepped 1 1 each below i
+record-step each below i r q e = let s = stepped-step 1 1 each below (omega arith) i in omega arith

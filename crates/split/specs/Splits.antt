@@ -63,6 +63,10 @@ copiesFor c m = (c + (m - 1)) / m
 abbrev pub shareOf : LayerHead → (c : ℕ) → Share
 shareOf layer c = record { count = c; copies = copiesFor c (layer .size) }
 
+-- the split with these counts, "with the least d for each c"
+abbrev pub countsSplit : List LayerHead → (counts : List ℕ) → ℕ → Share
+countsSplit layers counts x = shareOf (layerAt layers x) (getD counts x 0)
+
 -- more than the loss of any split of at most 4,096 records: it stands for records in a layer that has no block
 abbrev pub noSplit : ℕ
 noSplit = 8_192
@@ -101,4 +105,4 @@ namedCounts layers s k (suc x) b =
 
 -- the named split, computed
 unfoldable pub namedSplit : List LayerHead → (s k b : ℕ) → ℕ → Share
-namedSplit layers s k b x = shareOf (layerAt layers x) (getD (namedCounts layers s k s b) x 0)
+namedSplit layers s k b = countsSplit layers (namedCounts layers s k s b)

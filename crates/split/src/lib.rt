@@ -1,4 +1,4 @@
-// Splits of an order over a pack's layers: definitions and laws. The code is in split_rows, split_table and split_code.
+// Splits of an order over a pack's layers: definitions and laws. The code is in the crates split_*.
 
 // A layer's losses in steps: `each` for each record, or `copy` / `lost` for each copy of `size` blocks, whichever is less.
 pub struct Steps {

@@ -1,5 +1,4 @@
 // The counts of the named split, chosen with a table of least losses in the working slice.
-use count::best_count;
 ghost use mathlib.Core.Path.{_≡_};
 ghost use Prim.Native.Nat.{suc, _*_, _≤_};
 ghost use lib.ListN.{length, drop};
@@ -7,8 +6,6 @@ ghost use Rattle.layers.specs.Layers.{five};
 ghost use Rattle.split.specs.Splits.{namedCounts};
 ghost use Rattle.layers.specs.Answers.{arrayHeads};
 ghost use Rattle.split.specs.Table.{Limits};
-
-mod count;
 
 // The counts of the named split, in the layers' order, 0 from layer s on. The first s × (b+1) entries of `work` are free
 // afterwards, the others are as they were.
@@ -33,7 +30,7 @@ pub fn choose_counts(
     while 0 < x {
         let from = x * w;
         let end = from + w;
-        let c = best_count(&work[from..end], split_table::steps(mu, m, s, k, x), left);
+        let c = split_count::best_count(&work[from..end], split_steps::steps(mu, m, s, k, x), left);
         counts[x] = c;
         left -= c;
         x -= 1;
