@@ -10,7 +10,8 @@ use lib.Seq.{getD-at}
 use Rattle.lists.specs.Lists.{total, upTo}
 use Rattle.layers.specs.Layers.{LayerHead}
 use Rattle.placement.specs.Figure.{losses}
-use Rattle.split.specs.Splits.{Share, Split, Foremost, layerAt, splitHeads, shareOf, countsSplit, noSplit, lossOf, leastLoss, bestCount, namedCounts}
+use Rattle.split.specs.Splits.{Share, Split, Foremost, layerAt, splitHeads, shareOf, countsSplit}
+use Rattle.split.specs.Splits.{noSplit, lossOf, leastLoss, bestCount, namedCounts}
 use Rattle.split.proofs.LossOf.{lossOf-lt, lossOf-le-lossWith}
 use Rattle.split.proofs.Heads.{losses-suc, splitHeads-congr, split-last-le, split-init, split-snoc}
 use Rattle.split.proofs.LeastLoss.{bestCount-le, lossAt-bestCount, le-bestCount, leastLoss-suc-le, leastLoss-zero-lt, leastLoss-zero-zero, leastLoss-le-losses}

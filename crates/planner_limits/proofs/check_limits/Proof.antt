@@ -33,17 +33,20 @@ returns-3 c =
 returns-4 : tie.Need-returns-4
 returns-4 c =
     let a = c .before .before .before .before .args in
-    λ layers. sym (ap orderAnswer (k-above (packOf (a .n) (a .r) layers) (a .s) (a .k) (a .b) (omega arith) (omega arith) (omega arith) (omega arith)))
+    λ layers. sym (ap orderAnswer (k-above (packOf (a .n) (a .r) layers) (a .s) (a .k) (a .b)
+    (omega arith) (omega arith) (omega arith) (omega arith)))
 
 returns-5 : tie.Need-returns-5
 returns-5 c =
     let a = c .before .before .before .before .before .args in
-    λ layers. sym (ap orderAnswer (b-below (packOf (a .n) (a .r) layers) (a .s) (a .k) (a .b) (omega arith) (omega arith) (omega arith) (omega arith) (omega arith)))
+    λ layers. sym (ap orderAnswer (b-below (packOf (a .n) (a .r) layers) (a .s) (a .k) (a .b)
+    (omega arith) (omega arith) (omega arith) (omega arith) (omega arith)))
 
 returns-6 : tie.Need-returns-6
 returns-6 c =
     let a = c .before .before .before .before .before .before .args in
-    λ layers. sym (ap orderAnswer (b-above (packOf (a .n) (a .r) layers) (a .s) (a .k) (a .b) (omega arith) (omega arith) (omega arith) (omega arith) (omega arith) (omega arith)))
+    λ layers. sym (ap orderAnswer (b-above (packOf (a .n) (a .r) layers) (a .s) (a .k) (a .b)
+    (omega arith) (omega arith) (omega arith) (omega arith) (omega arith) (omega arith)))
 
 returns-7 : tie.Need-returns-7
 returns-7 c =

@@ -51,7 +51,8 @@ returns-2 c =
     let a = c .before .before .before .before .before .args in
     let l = c .before .before .before .before .check-limits in
     let h = c .before .has-block in
-    no-block (a .n) (a .r) (a .s) (a .k) (a .b) (a .work) (a .output) (a .m) (l .result) (l .ensures) (c .before .before .enum-told .given .1) (h .ensures)
+    no-block (a .n) (a .r) (a .s) (a .k) (a .b) (a .work) (a .output) (a .m) (l .result) (l .ensures)
+    (c .before .before .enum-told .given .1) (h .ensures)
     (not-true (h .result) (c .if1 .taken))
 
 add-entries : tie.Need-add-entries
@@ -65,7 +66,8 @@ returns-3 c =
     let a = c .before .before .before .before .before .before .args in
     let l = c .before .before .before .before .before .check-limits in
     let h = c .before .before .has-block in
-    short-work (a .n) (a .r) (a .s) (a .k) (a .b) (a .work) (a .output) (a .m) (l .result) (l .ensures) (c .before .before .before .enum-told .given .1) (h .ensures)
+    short-work (a .n) (a .r) (a .s) (a .k) (a .b) (a .work) (a .output) (a .m) (l .result) (l .ensures)
+    (c .before .before .before .enum-told .given .1) (h .ensures)
     (not-false (h .result) (c .before .if1 .left)) (c .if2 .taken)
 
 mul-bytes : tie.Need-mul-bytes
@@ -79,7 +81,8 @@ returns-4 c =
     let a = c .before .before .before .before .before .before .before .args in
     let l = c .before .before .before .before .before .before .check-limits in
     let h = c .before .before .before .has-block in
-    short-output (a .n) (a .r) (a .s) (a .k) (a .b) (a .work) (a .output) (a .m) (l .result) (l .ensures) (c .before .before .before .before .enum-told .given .1) (h .ensures)
+    short-output (a .n) (a .r) (a .s) (a .k) (a .b) (a .work) (a .output) (a .m) (l .result) (l .ensures)
+    (c .before .before .before .before .enum-told .given .1) (h .ensures)
     (not-false (h .result) (c .before .before .if1 .left)) (c .before .if2 .left) (c .if3 .taken)
 
 returns-5 : tie.Need-returns-5
@@ -87,7 +90,8 @@ returns-5 c =
     let a = c .before .before .before .before .before .before .before .args in
     let l = c .before .before .before .before .before .before .check-limits in
     let h = c .before .before .before .has-block in
-    order-good (a .n) (a .r) (a .s) (a .k) (a .b) (a .work) (a .output) (a .m) (l .result) (l .ensures) (c .before .before .before .before .enum-told .given .1) (h .ensures)
+    order-good (a .n) (a .r) (a .s) (a .k) (a .b) (a .work) (a .output) (a .m) (l .result) (l .ensures)
+    (c .before .before .before .before .enum-told .given .1) (h .ensures)
     (not-false (h .result) (c .before .before .if1 .left)) (c .before .if2 .left) (c .if3 .left)
 
 pub check-order-spec : {M : Type 1} → statement M

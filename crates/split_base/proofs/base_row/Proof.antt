@@ -41,7 +41,8 @@ loop-again : tie.Need-loop-again Inv-loop μ-loop
 loop-again c =
     let l = c .before .before .loop in
     let work = c .before .before .before .before .args .work .now in
-    (omega arith, simp length-set (l .inv .1), rw zero-add at (put-next 0 work lossBelow (l .b) (c .unplaced .result) (omega arith) (l .inv .2) (c .unplaced .ensures)))
+    let next = put-next 0 work lossBelow (l .b) (c .unplaced .result) (omega arith) (l .inv .2) (c .unplaced .ensures) in
+    (omega arith, simp length-set (l .inv .1), rw zero-add at next)
 
 same-length : tie.Need-same-length Inv-loop μ-loop
 same-length c = c .before .loop .inv .1

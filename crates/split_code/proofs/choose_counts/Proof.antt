@@ -77,10 +77,13 @@ best-count-requires c κs =
     let limit = s .pre .0 in
     let filled = c .before .before .before .before .before .before .before .fill .ensures in
     let limits = steps-limits (s .args .mu) (s .args .m) (s .args .s) (s .args .k) (l .x) (s .args .b) limit (l .inv .x-lt) in
-    let n = length-lentBelow (arrayHeads 5 (s .args .mu) (s .args .m)) (s .args .s) (s .args .k) (s .args .b) (l .x) (s .args .work .now) _ filled (l .inv .x-lt) in
+    let n = length-lentBelow (arrayHeads 5 (s .args .mu) (s .args .m)) (s .args .s) (s .args .k) (s .args .b) (l .x) (s .args .work .now) _
+    filled (l .inv .x-lt)
+    in
     let fits = l .inv .left-le in (
       rw (c .steps .ensures) limits,
-      rising-lentBelow (arrayHeads 5 (s .args .mu) (s .args .m)) (s .args .s) (s .args .k) (s .args .b) (l .x) (s .args .work .now) _ filled (l .inv .x-lt),
+      rising-lentBelow (arrayHeads 5 (s .args .mu) (s .args .m)) (s .args .s) (s .args .k) (s .args .b) (l .x) (s .args .work .now) _
+          filled (l .inv .x-lt),
       omega arith,
       omega (arith, limit .b-le),
     )

@@ -47,7 +47,8 @@ under-small c =
     let s = c .before .before .before in
     let l = c .before .loop in
     let h = s .pre .0 in
-    under-le (s .args .u) (s .args .at) (s .args .w) (s .args .work .now) (h .0) (s .pre .1) (l .i) (l .records) (l .scaled) (l .work) (l .inv) (c .loop-test .taken) (h .1) (h .2) (h .3)
+    under-le (s .args .u) (s .args .at) (s .args .w) (s .args .work .now) (h .0) (s .pre .1) (l .i) (l .records) (l .scaled)
+    (l .work) (l .inv) (c .loop-test .taken) (h .1) (h .2) (h .3)
 
 records-small : (c : tie.In-loop Inv-loop μ-loop) → c .before .loop .records ≤ noSplit
 records-small c =
@@ -88,7 +89,9 @@ add-copy-more c =
     let l = c .before .before .before .before .loop in
     let h = s .pre .0 in
     let g = h .0 .size-pos in
-    let earlier = earlier-le (s .args .u) (s .args .at) (s .args .w) (s .args .work .now) (h .0) (s .pre .1) (l .i) (l .records) (l .scaled) (l .work) (l .inv) (c .step-back .result) (omega (arith, c .step-back .ensures)) in
+    let earlier = earlier-le (s .args .u) (s .args .at) (s .args .w) (s .args .work .now) (h .0) (s .pre .1) (l .i) (l .records)
+    (l .scaled) (l .work) (l .inv) (c .step-back .result) (omega (arith, c .step-back .ensures))
+    in
     let most = scaled-lt (s .args .u) (h .0) noSplit (le-refl noSplit) in
     let more = h .0 .copy-lt in
     record { fits = omega arith }
@@ -109,7 +112,9 @@ smaller-requires-3 : tie.Need-smaller-requires-3 Inv-loop μ-loop
 smaller-requires-3 c κs = tt
 
 cast-work : tie.Need-cast-work Inv-loop μ-loop
-cast-work c = let h = under-small (c .before .before .before .before .before) in omega (arith, c .before .before .before .smaller .ensures, c .smaller3 .ensures)
+cast-work c =
+    let h = under-small (c .before .before .before .before .before) in
+    omega (arith, c .before .before .before .smaller .ensures, c .smaller3 .ensures)
 
 add-work : tie.Need-add-work Inv-loop μ-loop
 add-work c = omega arith
@@ -131,7 +136,8 @@ loop-again c =
     let s = c .before .before .before .before .before .before .before .before in
     let l = c .before .before .before .before .before .before .loop in
     let h = s .pre .0 in
-    raised-next (s .args .u) (s .args .at) (s .args .w) (s .args .work .now) (h .0) (s .pre .1) (l .i) (l .records) (l .scaled) (l .work) (l .inv) (c .before .before .before .before .before .loop-test .taken) (h .1) (h .2) (h .3)
+    raised-next (s .args .u) (s .args .at) (s .args .w) (s .args .work .now) (h .0) (s .pre .1) (l .i) (l .records) (l .scaled)
+    (l .work) (l .inv) (c .before .before .before .before .before .loop-test .taken) (h .1) (h .2) (h .3)
     (c .before .before .before .smaller .result) (c .before .before .step-back .result) (c .before .smaller2 .result) (c .smaller3 .result)
     (c .before .before .before .smaller .ensures) (c .before .before .step-back .ensures) (c .before .smaller2 .ensures) (c .smaller3 .ensures)
 

@@ -60,7 +60,8 @@ loop-again : tie.Need-loop-again Inv-loop μ-loop
 loop-again c =
     let s = c .before .before .before .before .before in
     let l = c .before .before .loop in
-    counted-more (s .args .u) (s .args .below .now) (s .args .left) (s .pre .0 .size-pos) (l .best) (l .least) (l .copies) (l .paid) (l .c) (l .inv) (c .before .loop-test .taken) (c .if1 .taken)
+    counted-more (s .args .u) (s .args .below .now) (s .args .left) (s .pre .0 .size-pos) (l .best) (l .least) (l .copies)
+    (l .paid) (l .c) (l .inv) (c .before .loop-test .taken) (c .if1 .taken)
 
 add-c : tie.Need-add-c Inv-loop μ-loop
 add-c c = omega arith
@@ -103,8 +104,12 @@ loop-again-2 : tie.Need-loop-again-2 Inv-loop μ-loop
 loop-again-2 c =
     let s = c .before .before .before .before .before .before .before .before in
     let l = c .before .before .before .before .before .loop in
-    counted-taken (s .args .u) (s .args .below .now) (s .args .left) (s .pre .0 .size-pos) (l .best) (l .least) (l .copies) (l .paid) (l .c) (l .inv) (c .before .before .before .before .loop-test .taken) (c .before .before .smaller .result + getD (s .args .below .now) (s .args .left - (l .c + 1)) 0)
-    (let h = l .inv .held in omega (arith, c .before .before .before .if1 .left)) (ap (λ n. n + getD (s .args .below .now) (s .args .left - (l .c + 1)) 0) (c .before .before .smaller .ensures)) (omega (arith, c .if2 .taken))
+    counted-taken (s .args .u) (s .args .below .now) (s .args .left) (s .pre .0 .size-pos) (l .best) (l .least) (l .copies)
+    (l .paid) (l .c) (l .inv) (c .before .before .before .before .loop-test .taken)
+    (c .before .before .smaller .result + getD (s .args .below .now) (s .args .left - (l .c + 1)) 0)
+    (let h = l .inv .held in omega (arith, c .before .before .before .if1 .left))
+    (ap (λ n. n + getD (s .args .below .now) (s .args .left - (l .c + 1)) 0) (c .before .before .smaller .ensures))
+    (omega (arith, c .if2 .taken))
 
 loop-less-3 : tie.Need-loop-less-3 Inv-loop μ-loop
 loop-less-3 c = omega arith
@@ -113,8 +118,12 @@ loop-again-3 : tie.Need-loop-again-3 Inv-loop μ-loop
 loop-again-3 c =
     let s = c .before .before .before .before .before .before .before .before in
     let l = c .before .before .before .before .before .loop in
-    counted-left (s .args .u) (s .args .below .now) (s .args .left) (s .pre .0 .size-pos) (l .best) (l .least) (l .copies) (l .paid) (l .c) (l .inv) (c .before .before .before .before .loop-test .taken) (c .before .before .smaller .result + getD (s .args .below .now) (s .args .left - (l .c + 1)) 0)
-    (let h = l .inv .held in omega (arith, c .before .before .before .if1 .left)) (ap (λ n. n + getD (s .args .below .now) (s .args .left - (l .c + 1)) 0) (c .before .before .smaller .ensures)) (omega (arith, c .if2 .left))
+    counted-left (s .args .u) (s .args .below .now) (s .args .left) (s .pre .0 .size-pos) (l .best) (l .least) (l .copies)
+    (l .paid) (l .c) (l .inv) (c .before .before .before .before .loop-test .taken)
+    (c .before .before .smaller .result + getD (s .args .below .now) (s .args .left - (l .c + 1)) 0)
+    (let h = l .inv .held in omega (arith, c .before .before .before .if1 .left))
+    (ap (λ n. n + getD (s .args .below .now) (s .args .left - (l .c + 1)) 0) (c .before .before .smaller .ensures))
+    (omega (arith, c .if2 .left))
 
 returns : tie.Need-returns Inv-loop μ-loop
 returns c =

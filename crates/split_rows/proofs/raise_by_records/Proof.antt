@@ -41,7 +41,8 @@ under-small : (c : tie.In-loop Inv-loop μ-loop)
 under-small c =
     let s = c .before .before .before in
     let l = c .before .loop in
-    under-records-le (s .args .each) (s .args .at) (s .args .w) (s .args .work .now) (s .pre .3) (l .i) (l .records) (l .work) (l .inv) (c .loop-test .taken) (s .pre .1) (s .pre .2)
+    under-records-le (s .args .each) (s .args .at) (s .args .w) (s .args .work .now) (s .pre .3) (l .i) (l .records) (l .work)
+    (l .inv) (c .loop-test .taken) (s .pre .1) (s .pre .2)
 
 cast-under : tie.Need-cast-under Inv-loop μ-loop
 cast-under c = let h = under-small (c .before) in omega arith
@@ -78,7 +79,8 @@ loop-again : tie.Need-loop-again Inv-loop μ-loop
 loop-again c =
     let s = c .before .before .before .before .before in
     let l = c .before .before .before .loop in
-    by-records-next (s .args .each) (s .args .at) (s .args .w) (s .args .work .now) (s .pre .3) (l .i) (l .records) (l .work) (l .inv) (c .before .before .loop-test .taken) (s .pre .1) (s .pre .2) (c .smaller .result) (c .smaller .ensures)
+    by-records-next (s .args .each) (s .args .at) (s .args .w) (s .args .work .now) (s .pre .3) (l .i) (l .records) (l .work)
+    (l .inv) (c .before .before .loop-test .taken) (s .pre .1) (s .pre .2) (c .smaller .result) (c .smaller .ensures)
 
 same-length : tie.Need-same-length Inv-loop μ-loop
 same-length c = c .before .loop .inv .same

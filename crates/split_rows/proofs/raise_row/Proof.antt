@@ -23,13 +23,17 @@ smaller-requires c κs = tt
 mul-if1 : tie.Need-mul-if1
 mul-if1 c =
     let s = c .before .before .before .before in
-    record { fits = let g = scaled-lt (s .args .u) (s .pre .0 .0) (c .before .smaller .result) (omega (arith, c .before .smaller .ensures)) in omega arith }
+    let g = scaled-lt (s .args .u) (s .pre .0 .0) (c .before .smaller .result) (omega (arith, c .before .smaller .ensures)) in
+    record { fits = omega arith }
 
 raise-by-both-requires : tie.Need-raise-by-both-requires
 raise-by-both-requires c κs = let s = c .before .before .before .before .before .before .before in s .pre
 
 raise-by-records-requires : tie.Need-raise-by-records-requires
-raise-by-records-requires c κs = let s = c .before .before .before .before .before .before .before in let h = s .pre .0 in (h .0 .each-le, h .2, h .3, s .pre .1)
+raise-by-records-requires c κs =
+    let s = c .before .before .before .before .before .before .before in
+    let h = s .pre .0 in
+    (h .0 .each-le, h .2, h .3, s .pre .1)
 
 same-length : tie.Need-same-length
 same-length c = search needs
@@ -45,7 +49,10 @@ returns-2 c =
     let s = c .before .before .before .before .before .before .before .before .before .before in
     let u = s .args .u in
     let below = part (s .args .at - s .args .w) (s .args .w) (s .args .work .now) in
-    let dear : u .lost * min noSplit (u .size * u .each) ≤ u .copy = rw (← c .before .before .before .before .before .before .before .smaller .ensures) (omega (arith, c .before .before .before .before .if1 .left)) in
+    let dear : u .lost * min noSplit (u .size * u .each) ≤ u .copy =
+    rw (← c .before .before .before .before .before .before .before .smaller .ensures)
+    (omega (arith, c .before .before .before .before .if1 .left))
+    in
     c .before .before .raise-by-records .ensures
     ∙ ap (put (s .args .at) (s .args .w) (s .args .work .now))
     (map-upTo-congr _ _ (s .args .w) (λ b h. sym (rowEntry-records u (s .pre .0 .0) below (s .pre .1) dear b)))

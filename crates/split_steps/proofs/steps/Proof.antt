@@ -41,7 +41,8 @@ returns c = let a = c .before .before .before .args in steps-no-blocks (a .t1) (
 returns-2 : tie.Need-returns-2
 returns-2 c =
     let a = c .before .before .before .args in
-    steps-blocks (a .t1) (a .t2) (a .s) (a .k) (a .x) (omega arith) (omega (arith, c .if1 .left)) (c .before .before .binomial .ensures) (c .before .binomial2 .ensures)
+    steps-blocks (a .t1) (a .t2) (a .s) (a .k) (a .x) (omega arith) (omega (arith, c .if1 .left))
+    (c .before .before .binomial .ensures) (c .before .binomial2 .ensures)
 
 pub steps-spec : {M : Type 1} → statement M
 steps-spec =

@@ -30,7 +30,8 @@ base-row-requires c κs = let s = c .before .before in row-fits (s .args .s) (s 
 -- where the loop begins row 0 is filled
 base-filled : (c : tie.After-slice-known2 Inv-loop μ-loop)
     → let s = c .before .before .before .before .before in
-    Filled (arrayHeads 5 (s .args .mu) (s .args .m)) (s .args .s) (s .args .k) (s .args .b + 1) 1 (s .args .work .now) (c .before .before .base-row .last .0)
+    Filled (arrayHeads 5 (s .args .mu) (s .args .m)) (s .args .s) (s .args .k) (s .args .b + 1) 1 (s .args .work .now)
+    (c .before .before .base-row .last .0)
 base-filled c =
     let s = c .before .before .before .before .before in
     rw (c .before .before .base-row .ensures)
@@ -78,7 +79,9 @@ raise-row-requires c κs =
     )
 
 add-x : tie.Need-add-x Inv-loop μ-loop
-add-x c = let h = c .before .before .before .before .before .before .before .before .before .before .before .before .pre .0 .s-le in omega (arith, c .before .before .before .before .before .before .loop .inv .1)
+add-x c =
+    let h = c .before .before .before .before .before .before .before .before .before .before .before .before .pre .0 .s-le in
+    omega (arith, c .before .before .before .before .before .before .loop .inv .1)
 
 loop-less : tie.Need-loop-less Inv-loop μ-loop
 loop-less c = omega arith
@@ -104,7 +107,8 @@ returns : tie.Need-returns Inv-loop μ-loop
 returns c =
     let s = c .before .before .before .before .before .before .before in
     let l = c .before .loop in
-    rw (← add-one (s .args .b)) (filled-since _ _ _ _ 1 (l .x) (s .args .work .now) _ (l .work) (base-filled (c .before .before)) (l .inv .3) (omega arith))
+    rw (← add-one (s .args .b))
+    (filled-since _ _ _ _ 1 (l .x) (s .args .work .now) _ (l .work) (base-filled (c .before .before)) (l .inv .3) (omega arith))
 
 pub fill-spec : {M : Type 1} → statement M
 fill-spec =
