@@ -50,7 +50,8 @@ module _ (x : ℕ) (layer : Layer) (layers : List Layer) where
         first = λ j lt. crowdedAt-in j (omega (arith, found .within)) ∙ found .first j lt;
       }
 
-  first-after : (i : ℕ) → firstCrowded x (layer .bound) (layer .rows) ≡ none → FirstCrowdedRow (suc x) layers i → FirstCrowdedRow x (layer ∷ layers) (size layer + i)
+  first-after : (i : ℕ) → firstCrowded x (layer .bound) (layer .rows) ≡ none → FirstCrowdedRow (suc x) layers i
+      → FirstCrowdedRow x (layer ∷ layers) (size layer + i)
   unfolding firstCrowded
   first-after i e h =
       record {
@@ -64,7 +65,8 @@ module _ (x : ℕ) (layer : Layer) (layers : List Layer) where
           go : (t : Bool) → ltb j (size layer) ≡ t → crowdedAt x (layer ∷ layers) j ≡ false
           go true p =
               crowdedAt-in j (ltb-true j (size layer) p)
-              ∙ all-getD (λ row. crowded x (layer .bound) (layer .rows) row ≡ false) (layer .rows) j [] (none-firstWhere _ (layer .rows) e) (ltb-true j (size layer) p)
+              ∙ all-getD (λ row. crowded x (layer .bound) (layer .rows) row ≡ false) (layer .rows) j []
+              (none-firstWhere _ (layer .rows) e) (ltb-true j (size layer) p)
           go false p =
               crowdedAt-after j (ltb-false j (size layer) p) ∙ h .first (j - size layer) (omega (arith, ltb-false j (size layer) p))
 
@@ -75,7 +77,10 @@ firstCrowdedOf-meaning x [] i e = absurd (let z : _≡_ {A = ℕ} 0 1 = cc in om
 firstCrowdedOf-meaning x (layer ∷ layers) i e =
     go (firstCrowded x (layer .bound) (layer .rows)) refl (firstCrowdedOf (suc x) layers) refl e (firstCrowdedOf-meaning (suc x) layers)
   where
-    go : (o : Option ℕ) → firstCrowded x (layer .bound) (layer .rows) ≡ o → (after : Option ℕ) → firstCrowdedOf (suc x) layers ≡ after → firstOf o (size layer) after ≡ some i → ((j : ℕ) → firstCrowdedOf (suc x) layers ≡ some j → FirstCrowdedRow (suc x) layers j) → FirstCrowdedRow x (layer ∷ layers) i
+    go : (o : Option ℕ) → firstCrowded x (layer .bound) (layer .rows) ≡ o → (after : Option ℕ)
+        → firstCrowdedOf (suc x) layers ≡ after → firstOf o (size layer) after ≡ some i
+        → ((j : ℕ) → firstCrowdedOf (suc x) layers ≡ some j → FirstCrowdedRow (suc x) layers j)
+        → FirstCrowdedRow x (layer ∷ layers) i
     go (some j) p after q r ih =
         let same : j ≡ i = cc in
         subst (FirstCrowdedRow x (layer ∷ layers)) same (first-in x layer layers j p)

@@ -25,7 +25,8 @@ length-allRows (layer ∷ layers) =
     length-append (layer .rows) (allRows layers) ∙ ap (λ n. size layer + n) (length-allRows layers)
 
 -- a layer's two numbers take at most six bytes
-pub length-headNumbers : (layers : List Layer) → All (λ layer. layer .bound ≤ largestNumber) layers → sizes (headsOf layers) < 16_384 → length (flatten (map numberBytes (headNumbers (headsOf layers)))) ≤ 6 * length layers
+pub length-headNumbers : (layers : List Layer) → All (λ layer. layer .bound ≤ largestNumber) layers
+    → sizes (headsOf layers) < 16_384 → length (flatten (map numberBytes (headNumbers (headsOf layers)))) ≤ 6 * length layers
 unfolding flatten total headNumbers
 length-headNumbers [] h small = omega arith
 length-headNumbers (layer ∷ layers) h small =
@@ -35,7 +36,8 @@ length-headNumbers (layer ∷ layers) h small =
     rw (length-append (numberBytes (layer .bound)), length-append (numberBytes (size layer))) (omega arith)
 
 -- the layers' numbers are at most the largest number
-pub headNumbers-most : (layers : List Layer) → All (λ layer. layer .bound ≤ largestNumber) layers → sizes (headsOf layers) ≤ largestNumber → All (λ v. v ≤ largestNumber) (headNumbers (headsOf layers))
+pub headNumbers-most : (layers : List Layer) → All (λ layer. layer .bound ≤ largestNumber) layers
+    → sizes (headsOf layers) ≤ largestNumber → All (λ v. v ≤ largestNumber) (headNumbers (headsOf layers))
 unfolding total headNumbers
 headNumbers-most [] h small = tt
 headNumbers-most (layer ∷ layers) h small = (h .0, (omega arith, headNumbers-most layers (h .1) (omega arith)))

@@ -26,6 +26,12 @@ order-of-checks = (refl, refl, refl, refl)
 -- rows 01 and 02 share node 0, which layer 1 allows and layer 0 does not; the place counts the rows of layer 0
 pub layer-numbers :
     (firstCrowdedOf 0 (record { bound = 1; rows = (0 ∷ 1 ∷ []) ∷ [] } ∷ record { bound = 1; rows = (0 ∷ 1 ∷ []) ∷ (0 ∷ 2 ∷ []) ∷ [] } ∷ []) ≡ none)
-    × (firstCrowdedOf 0 (record { bound = 1; rows = (0 ∷ 1 ∷ []) ∷ [] } ∷ record { bound = 1; rows = (0 ∷ 2 ∷ []) ∷ (0 ∷ 1 ∷ []) ∷ (0 ∷ 1 ∷ []) ∷ [] } ∷ []) ≡ some 2)
+    ×
+    (firstCrowdedOf 0
+    (record { bound = 1; rows = (0 ∷ 1 ∷ []) ∷ [] } ∷ record {
+      bound = 1;
+      rows = (0 ∷ 2 ∷ []) ∷ (0 ∷ 1 ∷ []) ∷
+          (0 ∷ 1 ∷ []) ∷ [];
+    } ∷ []) ≡ some 2)
 unfolding count every any firstWhere member holds together subsets crowded firstCrowded firstCrowdedOf
 layer-numbers = (refl, refl)

@@ -56,18 +56,21 @@ module _ {A B : Type 0} (R : A → B → Bool) where
       go true f ih = let g = f tt in omega arith
       go false f ih = omega arith
 
-  pairs-le : (Q : B → Bool) (t : ℕ) (l : List A) (m : List B) → ((a : A) (b : B) → T (R a b) → T (Q b)) → All (λ b. T (Q b) → count (λ a. R a b) l ≤ t) m → pairs l m ≤ t * count Q m
+  pairs-le : (Q : B → Bool) (t : ℕ) (l : List A) (m : List B) → ((a : A) (b : B) → T (R a b) → T (Q b))
+      → All (λ b. T (Q b) → count (λ a. R a b) l ≤ t) m → pairs l m ≤ t * count Q m
   unfolding count
   pairs-le Q t l [] only h = rw (pairs-nil l) zero-le
   pairs-le Q t l (b ∷ m) only h = rw (pairs-cons l b m) (go (Q b) refl (h .0) (pairs-le Q t l m only (h .1)))
     where
-      go : (c : Bool) → Q b ≡ c → (T c → count (λ a. R a b) l ≤ t) → pairs l m ≤ t * count Q m → count (λ a. R a b) l + pairs l m ≤ t * tally c (count Q m)
+      go : (c : Bool) → Q b ≡ c → (T c → count (λ a. R a b) l ≤ t) → pairs l m ≤ t * count Q m
+          → count (λ a. R a b) l + pairs l m ≤ t * tally c (count Q m)
       go true e f ih = let g = f tt in omega arith
       go false e f ih = rw (count-none (λ a. R a b) l (λ a r. subst T e (only a b r))) (omega arith)
 
   -- Each element of l that passes P is related to at least s elements of m, each of m to at most t of l, and only those
   -- that pass Q to any: then s for each that passes P is at most t for each that passes Q.
-  pub double-count : (P : A → Bool) (Q : B → Bool) (s t : ℕ) (l : List A) (m : List B) → All (λ a. T (P a) → s ≤ count (R a) m) l → ((a : A) (b : B) → T (R a b) → T (Q b)) → All (λ b. T (Q b) → count (λ a. R a b) l ≤ t) m → s * count P l ≤ t * count Q m
+  pub double-count : (P : A → Bool) (Q : B → Bool) (s t : ℕ) (l : List A) (m : List B) → All (λ a. T (P a) → s ≤ count (R a) m) l
+      → ((a : A) (b : B) → T (R a b) → T (Q b)) → All (λ b. T (Q b) → count (λ a. R a b) l ≤ t) m → s * count P l ≤ t * count Q m
   double-count P Q s t l m least only most = le-trans (le-pairs P s l m least) (pairs-le Q t l m only most)
 
 tally-split : (a e : Bool) (m n : ℕ) → (T e → T a) → tally a (m + n) ≡ tally e m + tally (a && not e) n

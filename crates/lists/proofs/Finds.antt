@@ -28,7 +28,8 @@ module _ {A : Type 0} where
   none-firstWhere f [] e = tt
   none-firstWhere f (a ∷ l) e = go (f a) refl e (none-firstWhere f l)
     where
-      go : (b : Bool) → f a ≡ b → cond b (some 0) (later (firstWhere f l)) ≡ none → (firstWhere f l ≡ none → All (λ a. f a ≡ false) l) → (f a ≡ false) × All (λ a. f a ≡ false) l
+      go : (b : Bool) → f a ≡ b → cond b (some 0) (later (firstWhere f l)) ≡ none
+          → (firstWhere f l ≡ none → All (λ a. f a ≡ false) l) → (f a ≡ false) × All (λ a. f a ≡ false) l
       go true p q ih = absurd (let z : _≡_ {A = ℕ} 0 1 = cc in omega arith)
       go false p q ih = (p, ih (later-none (firstWhere f l) q))
 
@@ -55,7 +56,8 @@ module _ {A : Type 0} where
   some-firstWhere f [] d i e = absurd (let z : _≡_ {A = ℕ} 0 1 = cc in omega arith)
   some-firstWhere f (a ∷ l) d i e = go (f a) refl (firstWhere f l) refl e (some-firstWhere f l d)
     where
-      go : (b : Bool) → f a ≡ b → (o : Option ℕ) → firstWhere f l ≡ o → cond b (some 0) (later o) ≡ some i → ((j : ℕ) → firstWhere f l ≡ some j → FoundAt f l d j) → FoundAt f (a ∷ l) d i
+      go : (b : Bool) → f a ≡ b → (o : Option ℕ) → firstWhere f l ≡ o → cond b (some 0) (later o) ≡ some i
+          → ((j : ℕ) → firstWhere f l ≡ some j → FoundAt f l d j) → FoundAt f (a ∷ l) d i
       go true p o r q ih = let e0 : 0 ≡ i = cc in subst (FoundAt f (a ∷ l) d) e0 (found-here f a l d p)
       go false p none r q ih = absurd (let z : _≡_ {A = ℕ} 0 1 = cc in omega arith)
       go false p (some j) r q ih =

@@ -41,7 +41,8 @@ count-eqb-of-distinct v (w ∷ nodes) d = go (eqb v w) refl (count-eqb-of-distin
     go false e ih = ih
 
 -- a distinct row with a failed member v has one replica less on failed nodes once v is up again
-pub hits-up : (v : ℕ) (failed : ℕ → Bool) (row : List ℕ) → T (distinct row) → T (failed v) → T (member v row) → hits failed row ≡ suc (hits (up v failed) row)
+pub hits-up : (v : ℕ) (failed : ℕ → Bool) (row : List ℕ) → T (distinct row) → T (failed v) → T (member v row)
+    → hits failed row ≡ suc (hits (up v failed) row)
 unfolding up
 hits-up v failed row d f m =
     count-split failed v f row
@@ -68,7 +69,8 @@ not-member-of-up v failed [] h m = m
 not-member-of-up v failed (w ∷ nodes) h m =
     let first = and-left (up v failed w) (every (up v failed) nodes) h in
     let rest = and-right (up v failed w) (every (up v failed) nodes) h in
-    ⊎-elim (T-not (eqb v w) (and-right (failed w) (not (eqb v w)) first)) (not-member-of-up v failed nodes rest) (or-cases (eqb v w) (member v nodes) m)
+    ⊎-elim (T-not (eqb v w) (and-right (failed w) (not (eqb v w)) first)) (not-member-of-up v failed nodes rest)
+    (or-cases (eqb v w) (member v nodes) m)
 
 -- a row's nodes are members of it
 all-member : (row : List ℕ) → All (λ w. T (member w row)) row

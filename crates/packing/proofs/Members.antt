@@ -33,7 +33,8 @@ member-later v w nodes m = or-right (eqb v w) (member v nodes) m
 pub member-of-holds : (row nodes : List ℕ) → T (holds row nodes) → (v : ℕ) → T (member v nodes) → T (member v row)
 unfolding holds every member
 member-of-holds row [] h v m = absurd m
-member-of-holds row (w ∷ nodes) h v m = go (member-cases v w nodes m) (member-of-holds row nodes (and-right (member w row) (every (λ u. member u row) nodes) h) v)
+member-of-holds row (w ∷ nodes) h v m = go (member-cases v w nodes m)
+    (member-of-holds row nodes (and-right (member w row) (every (λ u. member u row) nodes) h) v)
   where
     go : (v ≡ w) ⊎ T (member v nodes) → (T (member v nodes) → T (member v row)) → T (member v row)
     go (inl e) ih = rw e (and-left (member w row) (every (λ u. member u row) nodes) h)
@@ -43,7 +44,8 @@ pub holds-of-member : (row nodes : List ℕ) → ((v : ℕ) → T (member v node
 unfolding holds every
 holds-of-member row [] h = tt
 holds-of-member row (w ∷ nodes) h =
-    and-both (member w row) (every (λ u. member u row) nodes) (h w (member-here w w nodes refl)) (holds-of-member row nodes (λ v m. h v (member-later v w nodes m)))
+    and-both (member w row) (every (λ u. member u row) nodes) (h w (member-here w w nodes refl))
+    (holds-of-member row nodes (λ v m. h v (member-later v w nodes m)))
 
 -- the first of distinct nodes is none of the others
 pub distinct-head : (v : ℕ) (nodes : List ℕ) → T (distinct (v ∷ nodes)) → T (member v nodes) → ⊥
@@ -100,11 +102,13 @@ unfolding without
 member-of-without v u [] m = m
 member-of-without v u (w ∷ nodes) m = go (eqb v w) m (member-of-without v u nodes)
   where
-    tail : T (member u (w ∷ without v nodes)) → (T (member u (without v nodes)) → T (member u nodes)) → (u ≡ w) ⊎ T (member u (without v nodes)) → T (member u (w ∷ nodes))
+    tail : T (member u (w ∷ without v nodes)) → (T (member u (without v nodes)) → T (member u nodes))
+        → (u ≡ w) ⊎ T (member u (without v nodes)) → T (member u (w ∷ nodes))
     tail t ih (inl e) = member-here u w nodes e
     tail t ih (inr n) = member-later u w nodes (ih n)
 
-    go : (b : Bool) → T (member u (cond b nodes (w ∷ without v nodes))) → (T (member u (without v nodes)) → T (member u nodes)) → T (member u (w ∷ nodes))
+    go : (b : Bool) → T (member u (cond b nodes (w ∷ without v nodes))) → (T (member u (without v nodes)) → T (member u nodes))
+        → T (member u (w ∷ nodes))
     go true t ih = member-later u w nodes t
     go false t ih = tail t ih (member-cases u w (without v nodes) t)
 
@@ -118,7 +122,8 @@ member-without v u (w ∷ nodes) m = go (eqb v w) refl (member-cases u w nodes m
     later (inl e) = inl e
     later (inr n) = inr (member-later u w (without v nodes) n)
 
-    go : (b : Bool) → eqb v w ≡ b → (u ≡ w) ⊎ T (member u nodes) → (T (member u nodes) → (u ≡ v) ⊎ T (member u (without v nodes))) → (u ≡ v) ⊎ T (member u (cond b nodes (w ∷ without v nodes)))
+    go : (b : Bool) → eqb v w ≡ b → (u ≡ w) ⊎ T (member u nodes) → (T (member u nodes) → (u ≡ v) ⊎ T (member u (without v nodes)))
+        → (u ≡ v) ⊎ T (member u (cond b nodes (w ∷ without v nodes)))
     go true p (inl e) ih = let h = eqb→eq v w (T-true p) in inl cc
     go true p (inr n) ih = inr n
     go false p (inl e) ih = inr (member-here u w (without v nodes) e)
@@ -155,6 +160,7 @@ unfolding without member
 length-without v [] m = absurd m
 length-without v (w ∷ nodes) m = go (eqb v w) m (length-without v nodes)
   where
-    go : (b : Bool) → T (b || member v nodes) → (T (member v nodes) → suc (length (without v nodes)) ≡ length nodes) → suc (length (cond b nodes (w ∷ without v nodes))) ≡ suc (length nodes)
+    go : (b : Bool) → T (b || member v nodes) → (T (member v nodes) → suc (length (without v nodes)) ≡ length nodes)
+        → suc (length (cond b nodes (w ∷ without v nodes))) ≡ suc (length nodes)
     go true t ih = refl
     go false t ih = ap suc (ih t)

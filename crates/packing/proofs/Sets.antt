@@ -71,7 +71,9 @@ subsets-in (suc j) (v ∷ row) d =
     (SetIn (suc j) (v ∷ row))
     (map (λ set. v ∷ set) (subsets j row))
     (subsets (suc j) row)
-    (all-map (SetIn (suc j) (v ∷ row)) (λ set. v ∷ set) (subsets j row) (all-imp (SetIn j row) (λ set. SetIn (suc j) (v ∷ row) (v ∷ set)) (λ set. set-in-cons j v row set (distinct-head v row d)) (subsets j row) (subsets-in j row e)))
+    (all-map (SetIn (suc j) (v ∷ row)) (λ set. v ∷ set) (subsets j row)
+    (all-imp (SetIn j row) (λ set. SetIn (suc j) (v ∷ row) (v ∷ set)) (λ set. set-in-cons j v row set (distinct-head v row d))
+    (subsets j row) (subsets-in j row e)))
     (all-imp (SetIn (suc j) row) (SetIn (suc j) (v ∷ row)) (set-in-later (suc j) v row) (subsets (suc j) row) (subsets-in (suc j) row e))
 
 -- one of the row's sets of j nodes has the same members
@@ -86,7 +88,8 @@ set-in-without j v row nodes i s =
     record {
       size = suc-inj (length-without v nodes i ∙ s .size);
       apart = distinct-without v nodes (s .apart);
-      held = holds-of-member row (without v nodes) (λ u m. other u m (member-cases u v row (member-of-holds (v ∷ row) nodes (s .held) u (member-of-without v u nodes m))));
+      held = holds-of-member row (without v nodes)
+          (λ u m. other u m (member-cases u v row (member-of-holds (v ∷ row) nodes (s .held) u (member-of-without v u nodes m))));
     }
   where
     other : (u : ℕ) → T (member u (without v nodes)) → (u ≡ v) ⊎ T (member u row) → T (member u row)
@@ -151,6 +154,7 @@ listed-set (suc j) [] (w ∷ nodes) s = absurd (s .held)
 listed-set (suc j) (v ∷ row) nodes s =
     go (member v nodes) refl (listed-set j row (without v nodes)) (listed-set (suc j) row nodes)
   where
-    go : (b : Bool) → member v nodes ≡ b → (SetIn j row (without v nodes) → ListedSet j row (without v nodes)) → (SetIn (suc j) row nodes → ListedSet (suc j) row nodes) → ListedSet (suc j) (v ∷ row) nodes
+    go : (b : Bool) → member v nodes ≡ b → (SetIn j row (without v nodes) → ListedSet j row (without v nodes))
+        → (SetIn (suc j) row nodes → ListedSet (suc j) row nodes) → ListedSet (suc j) (v ∷ row) nodes
     go true p with-v rest = listed-cons j v row nodes (T-true p) (with-v (set-in-without j v row nodes (T-true p) s))
     go false p with-v rest = listed-later j v row nodes (rest (set-in-tail (suc j) v row nodes p s))

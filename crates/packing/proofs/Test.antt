@@ -82,7 +82,9 @@ module _ (x bound : ℕ) (rows : List (List ℕ)) where
   pub packing-uncrowded-distinct : Packing x bound rows → All (λ row. T (distinct row)) rows → firstCrowded x bound rows ≡ none
   unfolding firstCrowded
   packing-uncrowded-distinct h d =
-      firstWhere-none (crowded x bound rows) rows (all-imp (λ row. T (distinct row)) (λ row. crowded x bound rows row ≡ false) (λ row e. T-not-false (crowded x bound rows row) (λ t. packing-no-set row h (set-of-crowded row e t))) rows d)
+      firstWhere-none (crowded x bound rows) rows
+      (all-imp (λ row. T (distinct row)) (λ row. crowded x bound rows row ≡ false)
+      (λ row e. T-not-false (crowded x bound rows row) (λ t. packing-no-set row h (set-of-crowded row e t))) rows d)
 
   pub packing-uncrowded : (n r : ℕ) → Packing x bound rows → All (Row n r) rows → firstCrowded x bound rows ≡ none
   packing-uncrowded n r h d = packing-uncrowded-distinct h (rows-distinct n r rows d)
@@ -138,8 +140,10 @@ good-iff-in-order n rows = (good, in-order)
   where
     good : firstBad n rows ≡ none → All (λ row. T (inOrder n row)) rows
     good e =
-        all-imp (λ row. not (inOrder n row) ≡ false) (λ row. T (inOrder n row)) (λ row. not-false (inOrder n row)) rows (none-firstWhere (λ row. not (inOrder n row)) rows e)
+        all-imp (λ row. not (inOrder n row) ≡ false) (λ row. T (inOrder n row)) (λ row. not-false (inOrder n row)) rows
+        (none-firstWhere (λ row. not (inOrder n row)) rows e)
 
     in-order : All (λ row. T (inOrder n row)) rows → firstBad n rows ≡ none
     in-order h =
-        firstWhere-none (λ row. not (inOrder n row)) rows (all-imp (λ row. T (inOrder n row)) (λ row. not (inOrder n row) ≡ false) (λ row. not-of-T (inOrder n row)) rows h)
+        firstWhere-none (λ row. not (inOrder n row)) rows
+        (all-imp (λ row. T (inOrder n row)) (λ row. not (inOrder n row) ≡ false) (λ row. not-of-T (inOrder n row)) rows h)

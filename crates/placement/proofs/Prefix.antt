@@ -39,7 +39,9 @@ within-reach m bytes h long =
     let at₇ = readWithin-next 0 (b .value) t (b .next) e₇ in
     let end = reach (figure .next) (s .value) (b .value) (r .value) (omega arith) (omega arith) (omega arith) (omega arith) in
     bind-congr _ _ _ _ (readLayers-take m bytes long placementLayerLimits (s .value) (b .value) (figure .next) (omega arith)) λ head e₈.
-    bind-congr _ _ _ _ (layers-take placementLayerLimits (n .value) (r .value) (s .value) (b .value) bytes (figure .next) m long e₈ (omega arith)) λ layers e₉.
+    bind-congr _ _ _ _
+    (layers-take placementLayerLimits (n .value) (r .value) (s .value) (b .value) bytes (figure .next) m long e₈ (omega arith))
+    λ layers e₉.
     refl
 
 -- No byte after the first m is looked at.

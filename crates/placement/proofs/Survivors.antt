@@ -21,17 +21,22 @@ unfolding usable
 usable-append s rows more failed = count-append (λ row. ltb (hits failed row) s) rows more
 
 -- the records of the layers from x on are usable, or counted in the layers' losses
-sizes-le-losses : (n r s k x : ℕ) (layers : List Layer) (failed : ℕ → Bool) → x + length layers ≤ s → All (Row n r) (allRows layers) → Packings x layers → Failure n k failed → sizes (headsOf layers) ≤ usable s (allRows layers) failed + losses s k x (headsOf layers)
+sizes-le-losses : (n r s k x : ℕ) (layers : List Layer) (failed : ℕ → Bool) → x + length layers ≤ s → All (Row n r) (allRows layers)
+    → Packings x layers → Failure n k failed
+    → sizes (headsOf layers) ≤ usable s (allRows layers) failed + losses s k x (headsOf layers)
 unfolding total flatten loss losses
 sizes-le-losses n r s k x [] failed h rows packings e = omega arith
 sizes-le-losses n r s k x (layer ∷ layers) failed h rows packings e =
-    let here = failed-le-loss n r x s k (layer .bound) (layer .rows) failed (omega arith) (all-append-left (Row n r) (layer .rows) (allRows layers) rows) (packings .0) e in
-    let later = sizes-le-losses n r s k (suc x) layers failed (omega arith) (all-append-right (Row n r) (layer .rows) (allRows layers) rows) (packings .1) e in
+    let here = failed-le-loss n r x s k (layer .bound) (layer .rows) failed (omega arith)
+    (all-append-left (Row n r) (layer .rows) (allRows layers) rows) (packings .0) e in
+    let later = sizes-le-losses n r s k (suc x) layers failed (omega arith)
+    (all-append-right (Row n r) (layer .rows) (allRows layers) rows) (packings .1) e in
     rw (usable-append s (layer .rows) (allRows layers) failed) (omega arith)
 
 -- Demand 3: F "holds whichever k of its n nodes fail: at least F of its b records have fewer than s replicas among the
 -- failed".
-pub survivors : (p : Placement) → GoodPlacement p → (failed : ℕ → Bool) → Failure (p .n) (p .k) failed → p .figure ≤ usable (p .s) (allRows (p .layers)) failed
+pub survivors : (p : Placement) → GoodPlacement p → (failed : ℕ → Bool) → Failure (p .n) (p .k) failed
+    → p .figure ≤ usable (p .s) (allRows (p .layers)) failed
 unfolding figureOf
 survivors p good failed e =
     let layers = sizes-le-losses (p .n) (p .r) (p .s) (p .k) 0 (p .layers) failed (omega arith) (good .rows) (good .packings) e in

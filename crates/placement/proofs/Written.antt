@@ -38,8 +38,13 @@ module _ (p : Placement) (good : GoodPlacement p) where
   numbers-most : All (λ v. v ≤ largestNumber) (placementNumbers p)
   numbers-most =
       let l = good .limits in
-      let f = figure-le in
-      (omega arith, (omega arith, (omega arith, (omega arith, (omega arith, (omega arith, (omega arith, headNumbers-most (p .layers) bounds-most (omega arith))))))))
+      let f = figure-le in (
+        omega arith,
+        (
+          omega arith,
+          (omega arith, (omega arith, (omega arith, (omega arith, (omega arith, headNumbers-most (p .layers) bounds-most (omega arith)))))),
+        ),
+      )
 
   -- what is written is the placement's file
   pub written-file : PlacementFile p (placementBytes p)

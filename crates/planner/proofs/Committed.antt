@@ -78,7 +78,8 @@ module _ {n r : ℕ} {mu m blocks : List ℕ} {s k b : ℕ} {counts : List ℕ} 
 
   -- lambda and the figure, as the code has them
   module _ (lambda : List ℕ) (are : (x : ℕ) → x < s → getD lambda x 0 ≡ lambdaOf mu m counts x) where
-    pub figure-limits : ((s ≤ 5) × (k ≤ 255) × (sizes (arrayHeads s lambda counts) ≤ b)) × All (λ head. head .bound ≤ 16_777_216) (arrayHeads s lambda counts)
+    pub figure-limits : ((s ≤ 5) × (k ≤ 255) × (sizes (arrayHeads s lambda counts) ≤ b)) × All (λ head. head .bound ≤ 16_777_216)
+        (arrayHeads s lambda counts)
     figure-limits = (
       (s-le-five w, omega (arith, w .order .k-most, w .held .good .limits .n-most), sizes-within w lambda are),
       bounds-most w lambda are,

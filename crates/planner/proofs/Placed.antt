@@ -36,19 +36,22 @@ layer-all P (layer ∷ layers) zero d h = h .0
 layer-all P (layer ∷ layers) (suc x) d h = layer-all P layers x d (h .1)
 
 -- layer x's two numbers
-pub layerAt-heads : (layers : List Layer) (x : ℕ) → layerAt (headsOf layers) x ≡ record { bound = blocksAt layers x .bound; size = size (blocksAt layers x) }
+pub layerAt-heads : (layers : List Layer) (x : ℕ)
+    → layerAt (headsOf layers) x ≡ record { bound = blocksAt layers x .bound; size = size (blocksAt layers x) }
 layerAt-heads [] x = refl
 layerAt-heads (layer ∷ layers) zero = refl
 layerAt-heads (layer ∷ layers) (suc x) = layerAt-heads layers x
 
 -- the packings of the layers from o on, layer by layer
-packing-at : (o : ℕ) (layers : List Layer) (x : ℕ) → x < length layers → Packings o layers → Packing (o + x) (blocksAt layers x .bound) (blocksAt layers x .rows)
+packing-at : (o : ℕ) (layers : List Layer) (x : ℕ) → x < length layers → Packings o layers
+    → Packing (o + x) (blocksAt layers x .bound) (blocksAt layers x .rows)
 packing-at o [] x lt h = absurd (not-suc-le-zero lt)
 packing-at o (layer ∷ layers) zero lt h = rw (add-zero o) (h .0)
 packing-at o (layer ∷ layers) (suc x) lt h =
     rw (add-suc o x, ← suc-add o x) (packing-at (suc o) layers x (le-of-suc-le-suc lt) (h .1))
 
-packings-from : (o : ℕ) (layers : List Layer) → ((x : ℕ) → x < length layers → Packing (o + x) (blocksAt layers x .bound) (blocksAt layers x .rows)) → Packings o layers
+packings-from : (o : ℕ) (layers : List Layer)
+    → ((x : ℕ) → x < length layers → Packing (o + x) (blocksAt layers x .bound) (blocksAt layers x .rows)) → Packings o layers
 packings-from o [] h = tt
 packings-from o (layer ∷ layers) h = (
   rw (add-zero o) at (h zero (zero-lt-suc _)),
@@ -60,7 +63,9 @@ module _ (pack : Pack) (s k b : ℕ) (split : ℕ → Share) where
   abbrev placedAt : ℕ → Layer
   placedAt x = placed (blocksAt (pack .layers) x) (split x)
 
-  placed-head : (x : ℕ) → _≡_ {A = LayerHead} (record { bound = placedAt x .bound; size = size (placedAt x) }) (shareHead (layerAt (headsOf (pack .layers)) x) (split x))
+  placed-head : (x : ℕ)
+      → _≡_ {A = LayerHead} (record { bound = placedAt x .bound; size = size (placedAt x) })
+      (shareHead (layerAt (headsOf (pack .layers)) x) (split x))
   placed-head x = rw (length-repeated (blocksAt (pack .layers) x .rows) (split x .count), layerAt-heads (pack .layers) x)
 
   -- the placement's head numbers are the split's
@@ -69,7 +74,8 @@ module _ (pack : Pack) (s k b : ℕ) (split : ℕ → Share) where
       map-map (λ layer. record { bound = layer .bound; size = size layer }) placedAt (upTo s)
       ∙ map-upTo-congr _ _ s (λ x lt. placed-head x)
 
-  module _ (good : GoodPack pack) (order : OrderLimits pack s k b) (is : Split (headsOf (pack .layers)) s b split) (lambdas : (x : ℕ) → x < s → split x .copies * layerAt (headsOf (pack .layers)) x .bound ≤ 16_777_216) where
+  module _ (good : GoodPack pack) (order : OrderLimits pack s k b) (is : Split (headsOf (pack .layers)) s b split)
+      (lambdas : (x : ℕ) → x < s → split x .copies * layerAt (headsOf (pack .layers)) x .bound ≤ 16_777_216) where
     held : (x : ℕ) → x < s → split x .count ≤ split x .copies * size (blocksAt (pack .layers) x)
     held x lt = rw (layerAt-heads (pack .layers) x) at (is .held x lt)
 
@@ -107,13 +113,15 @@ module _ (pack : Pack) (s k b : ℕ) (split : ℕ → Share) where
     placed-packings : Packings 0 (map placedAt (upTo s))
     placed-packings = packings-from 0 (map placedAt (upTo s)) each
       where
-        each : (x : ℕ) → x < length (map placedAt (upTo s)) → Packing (0 + x) (blocksAt (map placedAt (upTo s)) x .bound) (blocksAt (map placedAt (upTo s)) x .rows)
+        each : (x : ℕ) → x < length (map placedAt (upTo s))
+            → Packing (0 + x) (blocksAt (map placedAt (upTo s)) x .bound) (blocksAt (map placedAt (upTo s)) x .rows)
         each x lt =
             let below : x < s = subst (λ (m : ℕ). x < m) (length-map-upTo placedAt s) lt in
             let within : x < length (pack .layers) = omega (arith, good .limits .layer-each, order .s-most) in
             subst (λ (layer : Layer). Packing (0 + x) (layer .bound) (layer .rows))
             (sym (getD-map-upTo placedAt s x (record { bound = 0; rows = [] }) below))
-            (copies-packing (0 + x) (blocksAt (pack .layers) x .bound) (split x .copies) (split x .count) (blocksAt (pack .layers) x .rows) (held x below)
+            (copies-packing (0 + x) (blocksAt (pack .layers) x .bound) (split x .copies) (split x .count)
+            (blocksAt (pack .layers) x .rows) (held x below)
             (packing-at 0 (pack .layers) x within (good .packings)))
 
     -- the split's placement is good

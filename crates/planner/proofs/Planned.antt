@@ -34,15 +34,25 @@ mu-most layers x h =
 pub order-accepted : (pack : Pack) (s k b : ℕ) → OrderLimits pack s k b → checkOrder pack s k b ≡ accepted tt
 unfolding checkOrder
 order-accepted pack s k b o =
-    rw (le-leb 1 s (o .s-least), le-leb s (pack .r) (o .s-most), le-leb s k (o .k-least), lt-ltb k (pack .n) (o .k-most), le-leb 1 b (o .b-least), le-leb b 4_096 (o .b-most))
+    rw (
+      le-leb 1 s (o .s-least),
+      le-leb s (pack .r) (o .s-most),
+      le-leb s k (o .k-least),
+      lt-ltb k (pack .n)
+          (o .k-most),
+      le-leb 1 b (o .b-least),
+      le-leb b 4_096 (o .b-most),
+    )
 
-module _ (bytes : List ℕ) (pack : Pack) (is-pack : checkPack bytes ≡ accepted pack) (s k b : ℕ) (order : OrderLimits pack s k b) (block : T (hasBlock (headsOf (pack .layers)) s)) where
+module _ (bytes : List ℕ) (pack : Pack) (is-pack : checkPack bytes ≡ accepted pack) (s k b : ℕ) (order : OrderLimits pack s k b)
+    (block : T (hasBlock (headsOf (pack .layers)) s)) where
   pub planned-accepted : planned bytes s k b ≡ accepted (namedPlacement pack s k b)
   unfolding planned
   planned-accepted = rw (is-pack, order-accepted pack s k b order, true-T (hasBlock (headsOf (pack .layers)) s) block)
 
   -- "the planner doesn't refuse", with "all buffers at least as long as stated"
-  pub plan-never-refuses : (work output : ℕ) → workNeeded s b ≤ work → outputNeeded b (pack .r) ≤ output → plan bytes s k b work output ≡ accepted (namedPlacement pack s k b)
+  pub plan-never-refuses : (work output : ℕ) → workNeeded s b ≤ work → outputNeeded b (pack .r) ≤ output
+      → plan bytes s k b work output ≡ accepted (namedPlacement pack s k b)
   unfolding plan namedPlacement splitPlacement
   plan-never-refuses work output hw ho = rw (planned-accepted, le-leb (workNeeded s b) work hw, le-leb (outputNeeded b (pack .r)) output ho)
 
@@ -75,6 +85,7 @@ module _ (bytes : List ℕ) (pack : Pack) (is-pack : checkPack bytes ≡ accepte
     plan-fits = written-length (namedPlacement pack s k b) plan-good
 
     -- "so this F too holds whichever k nodes fail"
-    pub plan-survives : (failed : ℕ → Bool) → Failure (pack .n) k failed → namedPlacement pack s k b .figure ≤ usable s (allRows (namedPlacement pack s k b .layers)) failed
+    pub plan-survives : (failed : ℕ → Bool) → Failure (pack .n) k failed
+        → namedPlacement pack s k b .figure ≤ usable s (allRows (namedPlacement pack s k b .layers)) failed
     unfolding namedPlacement splitPlacement
     plan-survives failed f = survivors (namedPlacement pack s k b) plan-good failed f

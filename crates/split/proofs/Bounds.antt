@@ -57,7 +57,8 @@ module _ (layers : List LayerHead) (s k : ℕ) where
   leastLoss-mono (suc x) b c h =
       le-leastLoss-suc layers s k (leastLoss layers s k (suc x) b) x c (λ d g. below d g (leastLoss-mono x (b - min d b) (c - d)))
     where
-      below : (d : ℕ) → d ≤ c → (b - min d b ≤ c - d → leastLoss layers s k x (b - min d b) ≤ leastLoss layers s k x (c - d)) → leastLoss layers s k (suc x) b ≤ lossAt layers s k x c d
+      below : (d : ℕ) → d ≤ c → (b - min d b ≤ c - d → leastLoss layers s k x (b - min d b) ≤ leastLoss layers s k x (c - d))
+          → leastLoss layers s k (suc x) b ≤ lossAt layers s k x c d
       below d g ih =
           let l = leastLoss-suc-le layers s k x b (min d b) (min-le-right d b) in
           let m = lossOf-mono layers s k x (min d b) d (min-le-left d b) in
@@ -85,7 +86,8 @@ module _ (layers : List LayerHead) (s k : ℕ) where
       le-antisymm (bestCount-le layers s k 0 b) (le-bestCount layers s k 0 b b (le-refl b) (omega arith))
 
 -- the named split's lambdas are within their limits
-pub named-lambda-le : (layers : List LayerHead) (s k b : ℕ) → b ≤ 4_096 → T (hasBlock layers s) → (x : ℕ) → x < s → layerAt layers x .bound ≤ 4_096 → namedSplit layers s k b x .copies * layerAt layers x .bound ≤ 16_777_216
+pub named-lambda-le : (layers : List LayerHead) (s k b : ℕ) → b ≤ 4_096 → T (hasBlock layers s) → (x : ℕ) → x < s
+    → layerAt layers x .bound ≤ 4_096 → namedSplit layers s k b x .copies * layerAt layers x .bound ≤ 16_777_216
 unfolding namedSplit
 named-lambda-le layers s k b small block x l g =
     let h = split-count-le layers s b (namedSplit layers s k b) (namedSplit-is-split layers s k b small block) x l in

@@ -14,7 +14,8 @@ use Rattle.split.specs.Splits.{Share, Split, layerAt, shareHead, splitHe
 use Rattle.split.proofs.Losses.{losses-append, sizes-append}
 
 module _ (layers : List LayerHead) where
-  pub splitHeads-suc : (x : ℕ) (split : ℕ → Share) → splitHeads layers (suc x) split ≡ splitHeads layers x split ++ (shareHead (layerAt layers x) (split x) ∷ [])
+  pub splitHeads-suc : (x : ℕ) (split : ℕ → Share)
+      → splitHeads layers (suc x) split ≡ splitHeads layers x split ++ (shareHead (layerAt layers x) (split x) ∷ [])
   splitHeads-suc x split = map-upTo-suc (λ y. shareHead (layerAt layers y) (split y)) x
 
   pub length-splitHeads : (x : ℕ) (split : ℕ → Share) → length (splitHeads layers x split) ≡ x
@@ -27,7 +28,9 @@ module _ (layers : List LayerHead) where
       ∙ sizes-append (splitHeads layers x split) (shareHead (layerAt layers x) (split x) ∷ [])
       ∙ omega arith
 
-  pub losses-suc : (s k x : ℕ) (split : ℕ → Share) → losses s k 0 (splitHeads layers (suc x) split) ≡ losses s k 0 (splitHeads layers x split) + loss s k x (shareHead (layerAt layers x) (split x))
+  pub losses-suc : (s k x : ℕ) (split : ℕ → Share)
+      → losses s k 0 (splitHeads layers (suc x) split) ≡ losses s k 0 (splitHeads layers x split) + loss s k x
+      (shareHead (layerAt layers x) (split x))
   unfolding losses
   losses-suc s k x split =
       ap (losses s k 0) (splitHeads-suc x split)
@@ -51,7 +54,8 @@ module _ (layers : List LayerHead) where
       }
 
   -- a split of one layer more
-  pub split-snoc : (x b : ℕ) (a split : ℕ → Share) → Split layers x (b - split x .count) a → ((y : ℕ) → y < x → split y ≡ a y) → split x .count ≤ b → split x .count ≤ split x .copies * layerAt layers x .size → Split layers (suc x) b split
+  pub split-snoc : (x b : ℕ) (a split : ℕ → Share) → Split layers x (b - split x .count) a → ((y : ℕ) → y < x → split y ≡ a y)
+      → split x .count ≤ b → split x .count ≤ split x .copies * layerAt layers x .size → Split layers (suc x) b split
   split-snoc x b a split h agree fits last =
       record {
         held = λ y g. heldAt y (eq-or-lt-of-le (le-of-suc-le-suc g));
@@ -69,7 +73,8 @@ module _ (layers : List LayerHead) where
   -- each count is at most the records
   pub split-count-le : (s b : ℕ) (split : ℕ → Share) → Split layers s b split → (x : ℕ) → x < s → split x .count ≤ b
   split-count-le zero b split h x l = absurd (not-suc-le-zero l)
-  split-count-le (suc s) b split h x l = go (eq-or-lt-of-le (le-of-suc-le-suc l)) (split-count-le s (b - split s .count) split (split-init s b split h) x)
+  split-count-le (suc s) b split h x l = go (eq-or-lt-of-le (le-of-suc-le-suc l))
+      (split-count-le s (b - split s .count) split (split-init s b split h) x)
     where
       go : (x ≡ s) ⊎ (x < s) → (x < s → split x .count ≤ b - split s .count) → split x .count ≤ b
       go (inl e) ih = rw e (split-last-le s b split h)

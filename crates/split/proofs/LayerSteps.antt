@@ -27,7 +27,8 @@ module _ (mu m : List ℕ) (s k x : ℕ) where
   steps-no-blocks h e = sym (stepsOf-no-blocks (termsOf (arrayHeads 5 mu m) s k x) (size-eq h ∙ e))
 
   pub steps-blocks : {above below : ℕ} → x < 5 → 0 < getD m x 0 → above ≡ choose k (x + 1) → below ≡ choose s (x + 1)
-      → _≡_ {A = Steps} (record { size = getD m x 0; each = 1; copy = getD mu x 0 * above; lost = below }) (stepsOf (termsOf (arrayHeads 5 mu m) s k x))
+      → _≡_ {A = Steps} (record { size = getD m x 0; each = 1; copy = getD mu x 0 * above; lost = below })
+      (stepsOf (termsOf (arrayHeads 5 mu m) s k x))
   steps-blocks h p e g =
       rw (stepsOf-blocks (termsOf (arrayHeads 5 mu m) s k x) (rw (size-eq h) p), e, g, add-one x, layerAt-arrayHeads mu m 5 x h) refl
 

@@ -53,7 +53,8 @@ module _ (f : ℕ → ℕ) where
   le-lastLeast zero c h g = h
   le-lastLeast (suc top) c h g = go (le-or-lt (f (suc top)) (least f top)) (le-suc-iff .0 h) (le-lastLeast top c)
     where
-      go : (f (suc top) ≤ least f top) ⊎ (least f top < f (suc top)) → (c ≤ top) ⊎ (c ≡ suc top) → (c ≤ top → f c ≤ least f top → c ≤ lastLeast f top) → c ≤ lastLeast f (suc top)
+      go : (f (suc top) ≤ least f top) ⊎ (least f top < f (suc top)) → (c ≤ top) ⊎ (c ≡ suc top)
+          → (c ≤ top → f c ≤ least f top → c ≤ lastLeast f top) → c ≤ lastLeast f (suc top)
       go (inl e) p ih = rw (lastLeast-suc-le top e) h
       go (inr e) (inl p) ih = rw (lastLeast-suc-lt top e) (ih p (omega arith))
       go (inr e) (inr p) ih =
@@ -65,7 +66,8 @@ module _ (f : ℕ → ℕ) where
   lastLeast-eq zero = refl
   lastLeast-eq (suc top) = go (le-or-lt (f (suc top)) (least f top)) (lastLeast-eq top)
     where
-      go : (f (suc top) ≤ least f top) ⊎ (least f top < f (suc top)) → f (lastLeast f top) ≡ least f top → f (lastLeast f (suc top)) ≡ min (f (suc top)) (least f top)
+      go : (f (suc top) ≤ least f top) ⊎ (least f top < f (suc top)) → f (lastLeast f top) ≡ least f top
+          → f (lastLeast f (suc top)) ≡ min (f (suc top)) (least f top)
       go (inl e) ih = ap f (lastLeast-suc-le top e) ∙ omega arith
       go (inr e) ih = ap f (lastLeast-suc-lt top e) ∙ omega arith
 

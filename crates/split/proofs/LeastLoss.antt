@@ -77,7 +77,8 @@ module _ (layers : List LayerHead) (s k : ℕ) where
       omega arith
 
   -- "Its figure is b less the losses": every split loses at least the least loss
-  pub leastLoss-le-losses : (x b : ℕ) (split : ℕ → Share) → Split layers x b split → leastLoss layers s k x b ≤ losses s k 0 (splitHeads layers x split)
+  pub leastLoss-le-losses : (x b : ℕ) (split : ℕ → Share) → Split layers x b split
+      → leastLoss layers s k x b ≤ losses s k 0 (splitHeads layers x split)
   unfolding upTo total
   leastLoss-le-losses zero b split h =
       let e : b ≡ 0 = sym (h .sum) in
@@ -96,7 +97,8 @@ module _ (layers : List LayerHead) (s k : ℕ) where
   leastLoss-le-self zero b t = absurd t
   leastLoss-le-self (suc x) b t = go (any-take-suc (λ layer. ltb 0 (layer .size)) layers x _ t) (leastLoss-le-self x b)
     where
-      go : T (ltb 0 (layerAt layers x .size)) ⊎ T (hasBlock layers x) → (T (hasBlock layers x) → leastLoss layers s k x b ≤ b) → leastLoss layers s k (suc x) b ≤ b
+      go : T (ltb 0 (layerAt layers x .size)) ⊎ T (hasBlock layers x) → (T (hasBlock layers x) → leastLoss layers s k x b ≤ b)
+          → leastLoss layers s k (suc x) b ≤ b
       go (inl p) ih =
           let h = leastLoss-suc-le x b b (le-refl b) in
           let e = lossAt-all x b in

@@ -21,7 +21,8 @@ any-take-suc f [] x d t = absurd t
 any-take-suc f (a ∷ l) zero d t = or-cases (f a) false t
 any-take-suc f (a ∷ l) (suc x) d t = go (or-cases (f a) (any f (take (suc x) l)) t) (any-take-suc f l x d)
   where
-    go : T (f a) ⊎ T (any f (take (suc x) l)) → (T (any f (take (suc x) l)) → T (f (getD l x d)) ⊎ T (any f (take x l))) → T (f (getD l x d)) ⊎ T (any f (take (suc x) (a ∷ l)))
+    go : T (f a) ⊎ T (any f (take (suc x) l)) → (T (any f (take (suc x) l)) → T (f (getD l x d)) ⊎ T (any f (take x l)))
+        → T (f (getD l x d)) ⊎ T (any f (take (suc x) (a ∷ l)))
     go (inl p) ih = inr (or-left (f a) (any f (take x l)) p)
     go (inr p) ih = later (ih p)
       where

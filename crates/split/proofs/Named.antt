@@ -16,7 +16,8 @@ use Rattle.split.proofs.LeastLoss.{leastLoss-le-losses, leastLoss-le-se
 use Rattle.split.proofs.NamedCounts.{namedBelow-split, namedBelow-losses, namedBelow-foremost}
 
 -- a split loses at most its records
-pub losses-le-split : (layers : List LayerHead) (s k b : ℕ) (split : ℕ → Share) → Split layers s b split → losses s k 0 (splitHeads layers s split) ≤ b
+pub losses-le-split : (layers : List LayerHead) (s k b : ℕ) (split : ℕ → Share) → Split layers s b split
+    → losses s k 0 (splitHeads layers s split) ≤ b
 losses-le-split layers s k b split h =
     let g = losses-le-sizes s k 0 (splitHeads layers s split) in
     let e = h .sum in
@@ -37,7 +38,8 @@ module _ (layers : List LayerHead) (s k b : ℕ) (small : b ≤ 4_096) (block : 
   namedSplit-losses = namedBelow-losses layers s k s b leastLoss-lt-noSplit
 
   -- "the splits with the highest figure"
-  pub named-highest : (other : ℕ → Share) → Split layers s b other → splitFigure layers s k b other ≤ splitFigure layers s k b (namedSplit layers s k b)
+  pub named-highest : (other : ℕ → Share) → Split layers s b other
+      → splitFigure layers s k b other ≤ splitFigure layers s k b (namedSplit layers s k b)
   unfolding figureOf
   named-highest other h =
       let e = namedSplit-losses in
@@ -45,7 +47,9 @@ module _ (layers : List LayerHead) (s k b : ℕ) (small : b ≤ 4_096) (block : 
       omega arith
 
   -- "the largest c in layer s-1, then in layer s-2, down to 0"
-  pub named-foremost : (other : ℕ → Share) → Split layers s b other → splitFigure layers s k b other ≡ splitFigure layers s k b (namedSplit layers s k b) → Foremost s (namedSplit layers s k b) other
+  pub named-foremost : (other : ℕ → Share) → Split layers s b other
+      → splitFigure layers s k b other ≡ splitFigure layers s k b (namedSplit layers s k b)
+      → Foremost s (namedSplit layers s k b) other
   unfolding figureOf namedSplit
   named-foremost other h same =
       let e = namedBelow-losses layers s k s b leastLoss-lt-noSplit in
@@ -85,11 +89,13 @@ share-ext : (p q : Share) → p .count ≡ q .count → p .copies ≡ q .copies 
 share-ext p q e f = ap₂ {C = Share} (λ c d. record { count = c; copies = d }) e f
 
 -- the least copies for the same count, each held by the other's
-copies-le : (layers : List LayerHead) (s k b : ℕ) (a a′ : ℕ → Share) → Named layers s k b a → Split layers s b a′ → (x : ℕ) → x < s → a x .count ≡ a′ x .count → a x .copies ≤ a′ x .copies
+copies-le : (layers : List LayerHead) (s k b : ℕ) (a a′ : ℕ → Share) → Named layers s k b a → Split layers s b a′ → (x : ℕ) → x < s
+    → a x .count ≡ a′ x .count → a x .copies ≤ a′ x .copies
 copies-le layers s k b a a′ n h x l e = n .least-copies x (a′ x .copies) l (rw e (h .held x l))
 
 -- document 01 names one split
-pub named-unique : (layers : List LayerHead) (s k b : ℕ) (a a′ : ℕ → Share) → Named layers s k b a → Named layers s k b a′ → (x : ℕ) → x < s → a x ≡ a′ x
+pub named-unique : (layers : List LayerHead) (s k b : ℕ) (a a′ : ℕ → Share) → Named layers s k b a → Named layers s k b a′ → (x : ℕ)
+    → x < s → a x ≡ a′ x
 named-unique layers s k b a a′ n n′ x h =
     let same = le-antisymm (n .highest a′ (n′ .is-split)) (n′ .highest a (n .is-split)) in
     let e = foremost-antisymm s a a′ (n .foremost a′ (n′ .is-split) same) (n′ .foremost a (n .is-split) (sym same)) x h in

@@ -75,7 +75,8 @@ module _ (layers : List LayerHead) (s k : ℕ) where
       (rw e held)
 
   -- its losses are the least
-  pub namedBelow-losses : (x b : ℕ) → leastLoss layers s k x b < noSplit → losses s k 0 (splitHeads layers x (namedBelow x b)) ≡ leastLoss layers s k x b
+  pub namedBelow-losses : (x b : ℕ) → leastLoss layers s k x b < noSplit
+      → losses s k 0 (splitHeads layers x (namedBelow x b)) ≡ leastLoss layers s k x b
   unfolding upTo losses
   namedBelow-losses zero b h = rw (leastLoss-zero-lt layers s k b h) (sym (leastLoss-zero-zero layers s k))
   namedBelow-losses (suc x) b h =
@@ -87,7 +88,8 @@ module _ (layers : List LayerHead) (s k : ℕ) where
       ∙ (rw (splitHeads-congr layers x (namedBelow (suc x) b) (namedBelow x (b - c)) (namedBelow-init x b), namedCounts-last x b) (omega arith))
 
   -- "the largest c in layer s-1, then in layer s-2, down to 0", of the splits that lose no more
-  pub namedBelow-foremost : (x b : ℕ) (other : ℕ → Share) → Split layers x b other → losses s k 0 (splitHeads layers x other) ≤ leastLoss layers s k x b → Foremost x (namedBelow x b) other
+  pub namedBelow-foremost : (x b : ℕ) (other : ℕ → Share) → Split layers x b other
+      → losses s k 0 (splitHeads layers x other) ≤ leastLoss layers s k x b → Foremost x (namedBelow x b) other
   namedBelow-foremost zero b other h g = tt
   namedBelow-foremost (suc x) b other h g =
       let c = other x .count in
@@ -99,7 +101,12 @@ module _ (layers : List LayerHead) (s k : ℕ) where
       let j = leastLoss-suc-le layers s k x b c fits in
       go (eq-or-lt-of-le (le-bestCount layers s k x b c fits (omega arith))) (namedBelow-foremost x (b - c) other init (omega arith))
     where
-      go : (other x .count ≡ bestCount layers s k x b) ⊎ (other x .count < bestCount layers s k x b) → Foremost x (namedBelow x (b - other x .count)) other → Foremost (suc x) (namedBelow (suc x) b) other
+      go : (other x .count ≡ bestCount layers s k x b) ⊎ (other x .count < bestCount layers s k x b)
+          → Foremost x (namedBelow x (b - other x .count)) other → Foremost (suc x) (namedBelow (suc x) b) other
       go (inl p) ih =
-          inr (p ∙ sym (namedCounts-last x b), foremost-congr x (namedBelow (suc x) b) (namedBelow x (b - other x .count)) other (λ y l. rw p (namedBelow-init x b y l)) ih)
+          inr (
+            p ∙ sym (namedCounts-last x b),
+            foremost-congr x (namedBelow (suc x) b) (namedBelow x (b - other x .count)) other
+                (λ y l. rw p (namedBelow-init x b y l)) ih,
+          )
       go (inr p) ih = inl (rw (namedCounts-last x b) p)

@@ -37,7 +37,14 @@ module _ (a k : ℕ) (l ys : List ℕ) (fits : a + k ≤ length l) where
     pub length-put : length (put a k l ys) ≡ length l
     length-put =
         let n = length-take-le a l (omega arith) in
-        omega (arith, length-append (take a l) (ys ++ drop k (drop a l)), length-append ys (drop k (drop a l)), length-drop k (drop a l), length-drop a l)
+        omega (
+          arith,
+          length-append (take a l) (ys ++ drop k (drop a l)),
+          length-append ys (drop k (drop a l)),
+          length-drop k
+              (drop a l),
+          length-drop a l,
+        )
 
     -- the part itself, and what follows it
     pub part-put-same : part a k (put a k l ys) ≡ ys

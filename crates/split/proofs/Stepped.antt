@@ -131,7 +131,8 @@ module _ (u : Steps) (limits : StepLimits u) (below : List ℕ) (b : ℕ) where
       le-antisymm (omega arith) (le-least (stepSum u below b) _ b (none-less-of-both r within))
 
 -- where a copy costs the mark, or all the records that it holds, it is of no use
-module _ (u : Steps) (limits : StepLimits u) (below : List ℕ) (rising : Rising below) (dear : u .lost * min noSplit (u .size * u .each) ≤ u .copy) where
+module _ (u : Steps) (limits : StepLimits u) (below : List ℕ) (rising : Rising below)
+    (dear : u .lost * min noSplit (u .size * u .each) ≤ u .copy) where
   records-mul-le : (b d : ℕ) → stepped 1 1 (u .each) below b * u .lost ≤ withSteps (u .lost) (u .size) (u .copy) below b d
   records-mul-le b zero =
       let h = stepped-le 1 1 (u .each) below (omega arith) b 0 in

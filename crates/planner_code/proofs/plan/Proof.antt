@@ -26,12 +26,14 @@ enum-known-answer-2 c = search needs
 found : (c : tie.After-answer2)
     → let checked = c .before .before .before .before .check-pack .result in
     let given = c .answer2 .given .0 in
-    PackFound (c .before .before .before .before .before .before .before .before .args .pack .now) (given .0) (given .1 .0) (given .1 .1 .0) (checked .mu) (checked .m)
+    PackFound (c .before .before .before .before .before .before .before .before .args .pack .now) (given .0) (given .1 .0)
+    (given .1 .1 .0) (checked .mu) (checked .m)
 found c =
     let bytes = c .before .before .before .before .before .before .before .before .args .pack .now in
     let checked = c .before .before .before .before .check-pack in
     check-accepted bytes (checked .result) (checked .ensures)
-    (getD-all (λ byte. byte < 256) 0 bytes (λ i lt. omega (arith, c .before .before .before .before .before .before .before .shared-slice-known .given i)))
+    (getD-all (λ byte. byte < 256) 0 bytes
+    (λ i lt. omega (arith, c .before .before .before .before .before .before .before .shared-slice-known .given i)))
     (c .answer2 .given .1)
 
 sub-plan-pack : tie.Need-sub-plan-pack
@@ -66,7 +68,8 @@ returns-2 : tie.Need-returns-2
 returns-2 c =
     let a = c .before .before .before .before .before .before .before .before .before .before .before .before .before .before .before .before .before .args in
     let is =
-    plan-of-found (a .pack .now) (a .s) (a .k) (a .b) (length (a .work .now)) (length (a .out .now)) (found (c .before .before .before .before .before .before .before .before .before))
+    plan-of-found (a .pack .now) (a .s) (a .k) (a .b) (length (a .work .now)) (length (a .out .now))
+    (found (c .before .before .before .before .before .before .before .before .before))
     in
     let p = c .before .before .before .before .plan-pack in
     (rw is (p .ensures .0), (rw is (p .ensures .1 .0), rw is (p .ensures .1 .1)))

@@ -37,7 +37,8 @@ returns c =
     absurd (put-not-refused (a .out .now) (w .last .0) (a .at) (a .v) (w .result) (s .pre .0) (s .pre .1) (w .ensures) (c .enum-told .given .1))
 
 -- what was written
-written : (c : tie.After-known-told) → c .before .written .given .0 .0 ≡ length (numberBytes (c .before .before .before .before .before .before .before .before .args .v))
+written : (c : tie.After-known-told)
+    → c .before .written .given .0 .0 ≡ length (numberBytes (c .before .before .before .before .before .before .before .before .args .v))
 written c =
     let s = c .before .before .before .before .before .before .before .before in
     let a = s .args in

@@ -32,18 +32,21 @@ children-loop-holds t c =
 pub children-sub-v : (t : ℕ) → children-lts.Need-sub-v (visit-below t, visit.Post) (children-at t) children.Post children-Inv-loop children-μ-loop
 children-sub-v t c = search needs
 
-pub children-mul-count : (t : ℕ) → children-lts.Need-mul-count (visit-below t, visit.Post) (children-at t) children.Post children-Inv-loop children-μ-loop
+pub children-mul-count : (t : ℕ)
+    → children-lts.Need-mul-count (visit-below t, visit.Post) (children-at t) children.Post children-Inv-loop children-μ-loop
 children-mul-count t c = search needs
 
 pub children-shared-slice-read-count : (t : ℕ)
     → children-lts.Need-shared-slice-read-count (visit-below t, visit.Post) (children-at t) children.Post children-Inv-loop children-μ-loop
 children-shared-slice-read-count t c = search needs
 
-pub children-cast-if1 : (t : ℕ) → children-lts.Need-cast-if1 (visit-below t, visit.Post) (children-at t) children.Post children-Inv-loop children-μ-loop
+pub children-cast-if1 : (t : ℕ)
+    → children-lts.Need-cast-if1 (visit-below t, visit.Post) (children-at t) children.Post children-Inv-loop children-μ-loop
 children-cast-if1 t c =
     omega (arith, c .shared-slice-known4 .given (c .before .before .loop .v - 1))
 
-pub children-loop-less : (t : ℕ) → children-lts.Need-loop-less (visit-below t, visit.Post) (children-at t) children.Post children-Inv-loop children-μ-loop
+pub children-loop-less : (t : ℕ)
+    → children-lts.Need-loop-less (visit-below t, visit.Post) (children-at t) children.Post children-Inv-loop children-μ-loop
 children-loop-less t c = search needs
 
 pub children-loop-again : (t : ℕ)
@@ -59,7 +62,8 @@ children-loop-again t c =
           (g .next .now) (g .least) (l .next) (l .v) (l .lowest) pos (c .if1 .taken) (l .inv .3),
     )
 
-pub children-mul-visit : (t : ℕ) → children-lts.Need-mul-visit (visit-below t, visit.Post) (children-at t) children.Post children-Inv-loop children-μ-loop
+pub children-mul-visit : (t : ℕ)
+    → children-lts.Need-mul-visit (visit-below t, visit.Post) (children-at t) children.Post children-Inv-loop children-μ-loop
 children-mul-visit t c = search needs
 
 pub children-shared-slice-read-visit : (t : ℕ)
