@@ -9,8 +9,8 @@ use Rattle.crowding_visits.proofs.+children+visit.Lts-visit as visit-lt
 use Rattle.crowding_visits.proofs.+children+visit.{statement}
 use Rattle.crowding_visits.proofs.+children+visit.Tie.{close}
 use Rattle.crowding_visits.proofs.+children+visit.Proof.Measures.{μ-children, μ-visit, children-at, visit-at, visit-below, callees}
-use Rattle.crowding_visits.proofs.+children+visit.Proof.Children.{children-Inv-loop, children-μ-loop, children-loop-holds, children-sub-v, children-mul-count, children-shared-slice-read-count, children-cast-if1, children-loop-less, children-loop-again, children-mul-visit, children-shared-slice-read-visit, children-visit-requires, children-loop-less-2, children-loop-again-2, children-same-length, children-returns}
-use Rattle.crowding_visits.proofs.+children+visit.Proof.Visit.{visit-lowest-requires, visit-same-length, visit-returns, visit-most-after-requires, visit-same-length-2, visit-returns-2, visit-sub-link-tails, visit-slice-aggregate-link-tails, visit-slice-aggregate-link-tails-2, visit-link-tails-requires, visit-same-length-3, visit-returns-3, visit-shared-slice-read-low, visit-cast-low, visit-add-low, visit-sub-children, visit-slice-aggregate-children, visit-slice-aggregate-children-2, visit-children-requires, visit-same-length-4, visit-returns-4}
+use Rattle.crowding_visits.proofs.+children+visit.Proof.Children as of-children
+use Rattle.crowding_visits.proofs.+children+visit.Proof.Visit as of-visit
 
 pub +children+visit-spec : {M : Type 1} → statement M
 +children+visit-spec = close μ-children μ-visit (λ t. children-lts.spec (
@@ -19,43 +19,43 @@ pub +children+visit-spec : {M : Type 1} → statement M
 )
     (children-at t)
     children.Post
-    children-Inv-loop
-    children-μ-loop
-    (children-loop-holds t)
-    (children-sub-v t)
-    (children-mul-count t)
-    (children-shared-slice-read-count t)
-    (children-cast-if1 t)
-    (children-loop-less t)
-    (children-loop-again t)
-    (children-mul-visit t)
-    (children-shared-slice-read-visit t)
-    (children-visit-requires t)
-    (children-loop-less-2 t)
-    (children-loop-again-2 t)
-    (children-same-length t)
-    (children-returns t))
+    of-children.Inv-loop
+    of-children.μ-loop
+    (of-children.loop-holds t)
+    (of-children.sub-v t)
+    (of-children.mul-count t)
+    (of-children.shared-slice-read-count t)
+    (of-children.cast-if1 t)
+    (of-children.loop-less t)
+    (of-children.loop-again t)
+    (of-children.mul-visit t)
+    (of-children.shared-slice-read-visit t)
+    (of-children.visit-requires t)
+    (of-children.loop-less-2 t)
+    (of-children.loop-again-2 t)
+    (of-children.same-length t)
+    (of-children.returns t))
     λ t. visit-lts.spec (callees t)
     (visit-at t)
     visit.Post
-    (visit-lowest-requires t)
-    (visit-same-length t)
-    (visit-returns t)
-    (visit-most-after-requires t)
-    (visit-same-length-2 t)
-    (visit-returns-2 t)
-    (visit-sub-link-tails t)
-    (visit-slice-aggregate-link-tails t)
-    (visit-slice-aggregate-link-tails-2 t)
-    (visit-link-tails-requires t)
-    (visit-same-length-3 t)
-    (visit-returns-3 t)
-    (visit-shared-slice-read-low t)
-    (visit-cast-low t)
-    (visit-add-low t)
-    (visit-sub-children t)
-    (visit-slice-aggregate-children t)
-    (visit-slice-aggregate-children-2 t)
-    (visit-children-requires t)
-    (visit-same-length-4 t)
-    (visit-returns-4 t)
+    (of-visit.lowest-requires t)
+    (of-visit.same-length t)
+    (of-visit.returns t)
+    (of-visit.most-after-requires t)
+    (of-visit.same-length-2 t)
+    (of-visit.returns-2 t)
+    (of-visit.sub-link-tails t)
+    (of-visit.slice-aggregate-link-tails t)
+    (of-visit.slice-aggregate-link-tails-2 t)
+    (of-visit.link-tails-requires t)
+    (of-visit.same-length-3 t)
+    (of-visit.returns-3 t)
+    (of-visit.shared-slice-read-low t)
+    (of-visit.cast-low t)
+    (of-visit.add-low t)
+    (of-visit.sub-children t)
+    (of-visit.slice-aggregate-children t)
+    (of-visit.slice-aggregate-children-2 t)
+    (of-visit.children-requires t)
+    (of-visit.same-length-4 t)
+    (of-visit.returns-4 t)

@@ -10,16 +10,16 @@ use Rattle.crowding_visits.proofs.+children+visit.Lts-children as child
 use Rattle.crowding_visits.proofs.visit.Reads as visit
 use Rattle.crowding_visits.proofs.+children+visit.Proof.Measures.{children-at, visit-below}
 
-abbrev pub children-Inv-loop : children-lts.InvT-loop
-children-Inv-loop rows r w bound high heads counts low next₀ least v₀ lowest₀ next v lowest =
+abbrev pub Inv-loop : children-lts.InvT-loop
+Inv-loop rows r w bound high heads counts low next₀ least v₀ lowest₀ next v lowest =
     (v ≤ 256) × (low ≤ v) × (length next ≡ length next₀) × ToVisit r w bound rows heads counts next₀ least next v lowest
 
-abbrev pub children-μ-loop : children-lts.MeasureT-loop
-children-μ-loop rows r w bound high heads counts low next₀ least v₀ lowest₀ next v lowest = v
+abbrev pub μ-loop : children-lts.MeasureT-loop
+μ-loop rows r w bound high heads counts low next₀ least v₀ lowest₀ next v lowest = v
 
-pub children-loop-holds : (t : ℕ)
-    → children-lts.Need-loop-holds (visit-below t, visit.Post) (children-at t) children.Post children-Inv-loop children-μ-loop
-children-loop-holds t c =
+pub loop-holds : (t : ℕ)
+    → children-lts.Need-loop-holds (visit-below t, visit.Post) (children-at t) children.Post Inv-loop μ-loop
+loop-holds t c =
     let g = c .before .before .before .before .args in
     let pre = c .before .before .before .before .pre .1 in (
       pre .1 .1 .0 .0,
@@ -29,29 +29,29 @@ children-loop-holds t c =
           (g .next .now) (g .least) (omega (arith, pre .0)) (g .high) (pre .1 .1 .0 .0) (pre .1 .1 .0 .1) (pre .1 .1 .1 .1),
     )
 
-pub children-sub-v : (t : ℕ) → children-lts.Need-sub-v (visit-below t, visit.Post) (children-at t) children.Post children-Inv-loop children-μ-loop
-children-sub-v t c = search needs
+pub sub-v : (t : ℕ) → children-lts.Need-sub-v (visit-below t, visit.Post) (children-at t) children.Post Inv-loop μ-loop
+sub-v t c = search needs
 
-pub children-mul-count : (t : ℕ)
-    → children-lts.Need-mul-count (visit-below t, visit.Post) (children-at t) children.Post children-Inv-loop children-μ-loop
-children-mul-count t c = search needs
+pub mul-count : (t : ℕ)
+    → children-lts.Need-mul-count (visit-below t, visit.Post) (children-at t) children.Post Inv-loop μ-loop
+mul-count t c = search needs
 
-pub children-shared-slice-read-count : (t : ℕ)
-    → children-lts.Need-shared-slice-read-count (visit-below t, visit.Post) (children-at t) children.Post children-Inv-loop children-μ-loop
-children-shared-slice-read-count t c = search needs
+pub shared-slice-read-count : (t : ℕ)
+    → children-lts.Need-shared-slice-read-count (visit-below t, visit.Post) (children-at t) children.Post Inv-loop μ-loop
+shared-slice-read-count t c = search needs
 
-pub children-cast-if1 : (t : ℕ)
-    → children-lts.Need-cast-if1 (visit-below t, visit.Post) (children-at t) children.Post children-Inv-loop children-μ-loop
-children-cast-if1 t c =
+pub cast-if1 : (t : ℕ)
+    → children-lts.Need-cast-if1 (visit-below t, visit.Post) (children-at t) children.Post Inv-loop μ-loop
+cast-if1 t c =
     omega (arith, c .shared-slice-known4 .given (c .before .before .loop .v - 1))
 
-pub children-loop-less : (t : ℕ)
-    → children-lts.Need-loop-less (visit-below t, visit.Post) (children-at t) children.Post children-Inv-loop children-μ-loop
-children-loop-less t c = search needs
+pub loop-less : (t : ℕ)
+    → children-lts.Need-loop-less (visit-below t, visit.Post) (children-at t) children.Post Inv-loop μ-loop
+loop-less t c = search needs
 
-pub children-loop-again : (t : ℕ)
-    → children-lts.Need-loop-again (visit-below t, visit.Post) (children-at t) children.Post children-Inv-loop children-μ-loop
-children-loop-again t c =
+pub loop-again : (t : ℕ)
+    → children-lts.Need-loop-again (visit-below t, visit.Post) (children-at t) children.Post Inv-loop μ-loop
+loop-again t c =
     let l = c .before .before .before .loop in
     let g = c .before .before .before .before .before .before .before .before .args in
     let pos : 0 < l .v = omega (arith, c .before .before .loop-test .taken) in (
@@ -62,17 +62,17 @@ children-loop-again t c =
           (g .next .now) (g .least) (l .next) (l .v) (l .lowest) pos (c .if1 .taken) (l .inv .3),
     )
 
-pub children-mul-visit : (t : ℕ)
-    → children-lts.Need-mul-visit (visit-below t, visit.Post) (children-at t) children.Post children-Inv-loop children-μ-loop
-children-mul-visit t c = search needs
+pub mul-visit : (t : ℕ)
+    → children-lts.Need-mul-visit (visit-below t, visit.Post) (children-at t) children.Post Inv-loop μ-loop
+mul-visit t c = search needs
 
-pub children-shared-slice-read-visit : (t : ℕ)
-    → children-lts.Need-shared-slice-read-visit (visit-below t, visit.Post) (children-at t) children.Post children-Inv-loop children-μ-loop
-children-shared-slice-read-visit t c = search needs
+pub shared-slice-read-visit : (t : ℕ)
+    → children-lts.Need-shared-slice-read-visit (visit-below t, visit.Post) (children-at t) children.Post Inv-loop μ-loop
+shared-slice-read-visit t c = search needs
 
-pub children-visit-requires : (t : ℕ)
-    → children-lts.Need-visit-requires (visit-below t, visit.Post) (children-at t) children.Post children-Inv-loop children-μ-loop
-children-visit-requires t c κs =
+pub visit-requires : (t : ℕ)
+    → children-lts.Need-visit-requires (visit-below t, visit.Post) (children-at t) children.Post Inv-loop μ-loop
+visit-requires t c κs =
     let l = c .before .before .before .before .before .loop in
     let g = c .before .before .before .before .before .before .before .before .before .before .args in
     let pre = c .before .before .before .before .before .before .before .before .before .before .pre .1 in
@@ -95,13 +95,13 @@ children-visit-requires t c κs =
       ),
     )
 
-pub children-loop-less-2 : (t : ℕ)
-    → children-lts.Need-loop-less-2 (visit-below t, visit.Post) (children-at t) children.Post children-Inv-loop children-μ-loop
-children-loop-less-2 t c = search needs
+pub loop-less-2 : (t : ℕ)
+    → children-lts.Need-loop-less-2 (visit-below t, visit.Post) (children-at t) children.Post Inv-loop μ-loop
+loop-less-2 t c = search needs
 
-pub children-loop-again-2 : (t : ℕ)
-    → children-lts.Need-loop-again-2 (visit-below t, visit.Post) (children-at t) children.Post children-Inv-loop children-μ-loop
-children-loop-again-2 t c =
+pub loop-again-2 : (t : ℕ)
+    → children-lts.Need-loop-again-2 (visit-below t, visit.Post) (children-at t) children.Post Inv-loop μ-loop
+loop-again-2 t c =
     let l = c .before .before .before .before .before .before .before .before .loop in
     let g = c .before .before .before .before .before .before .before .before .before .before .before .before .before .args in
     let pre = c .before .before .before .before .before .before .before .before .before .before .before .before .before .pre .1 in
@@ -117,13 +117,13 @@ children-loop-again-2 t c =
           (called .ensures .0) (called .ensures .1),
     )
 
-pub children-same-length : (t : ℕ)
-    → children-lts.Need-same-length (visit-below t, visit.Post) (children-at t) children.Post children-Inv-loop children-μ-loop
-children-same-length t c =
+pub same-length : (t : ℕ)
+    → children-lts.Need-same-length (visit-below t, visit.Post) (children-at t) children.Post Inv-loop μ-loop
+same-length t c =
     c .before .loop .inv .2
 
-pub children-returns : (t : ℕ) → children-lts.Need-returns (visit-below t, visit.Post) (children-at t) children.Post children-Inv-loop children-μ-loop
-children-returns t c =
+pub returns : (t : ℕ) → children-lts.Need-returns (visit-below t, visit.Post) (children-at t) children.Post Inv-loop μ-loop
+returns t c =
     let l = c .before .loop in
     let g = c .before .before .before .before .before .before .args in
     let pre = c .before .before .before .before .before .before .pre .1 in (

@@ -32,5 +32,13 @@ abbrev pub visit-below : ℕ → In 2 visit-kinds.ps
 visit-below t = and 2 visit-kinds.ps (falls 2 visit-kinds.ps _<_ μ-visit t) visit.Pre
 
 abbrev pub callees : ℕ → visit-lts.Claims
-callees t =
-    (lowest-reads.Asked, lowest-reads.Learnt, most-after-reads.Asked, most-after-reads.Learnt, link-tails-reads.Asked, link-tails-reads.Learnt, children-below t, children.Post)
+callees t = (
+  lowest-reads.Asked,
+  lowest-reads.Learnt,
+  most-after-reads.Asked,
+  most-after-reads.Learnt,
+  link-tails-reads.Asked,
+  link-tails-reads.Learnt,
+  children-below t,
+  children.Post,
+)

@@ -12,8 +12,8 @@ use Rattle.crowding_visits.proofs.visit.Reads as visit
 use Rattle.crowding_visits.proofs.+children+visit.Lts-visit as visit-lts
 use Rattle.crowding_visits.proofs.+children+visit.Proof.Measures.{visit-at, callees}
 
-pub visit-lowest-requires : (t : ℕ) → visit-lts.Need-lowest-requires (callees t) (visit-at t) visit.Post
-visit-lowest-requires t c κs =
+pub lowest-requires : (t : ℕ) → visit-lts.Need-lowest-requires (callees t) (visit-at t) visit.Post
+lowest-requires t c κs =
     let g = c .before .before .before .before .args in
     let pre = c .before .before .before .before .pre .1 in
     let pos : 0 < g .r = omega (arith, pre .0) in (
@@ -22,11 +22,11 @@ visit-lowest-requires t c κs =
           (getD (g .rows .now) (g .head) 0) (pre .1 .1 .1 .1),
     )
 
-pub visit-same-length : (t : ℕ) → visit-lts.Need-same-length (callees t) (visit-at t) visit.Post
-visit-same-length t c = search needs
+pub same-length : (t : ℕ) → visit-lts.Need-same-length (callees t) (visit-at t) visit.Post
+same-length t c = search needs
 
-pub visit-returns : (t : ℕ) → visit-lts.Need-returns (callees t) (visit-at t) visit.Post
-visit-returns t c =
+pub returns : (t : ℕ) → visit-lts.Need-returns (callees t) (visit-at t) visit.Post
+returns t c =
     let g = c .before .before .before .before .before .args in
     let pre = c .before .before .before .before .before .pre .1 in (
       c .lowest .ensures ∙ visit-last (g .r) (g .w) (g .bound) (g .rows .now) (g .next .now) (g .head) (g .count) (g .least)
@@ -34,8 +34,8 @@ visit-returns t c =
       λ p le. refl,
     )
 
-pub visit-most-after-requires : (t : ℕ) → visit-lts.Need-most-after-requires (callees t) (visit-at t) visit.Post
-visit-most-after-requires t c κs =
+pub most-after-requires : (t : ℕ) → visit-lts.Need-most-after-requires (callees t) (visit-at t) visit.Post
+most-after-requires t c κs =
     let g = c .before .before .before .before .args in
     let pre = c .before .before .before .before .pre .1 in
     let pos : 0 < g .r = omega (arith, pre .0) in (
@@ -48,11 +48,11 @@ visit-most-after-requires t c κs =
       ),
     )
 
-pub visit-same-length-2 : (t : ℕ) → visit-lts.Need-same-length-2 (callees t) (visit-at t) visit.Post
-visit-same-length-2 t c = search needs
+pub same-length-2 : (t : ℕ) → visit-lts.Need-same-length-2 (callees t) (visit-at t) visit.Post
+same-length-2 t c = search needs
 
-pub visit-returns-2 : (t : ℕ) → visit-lts.Need-returns-2 (callees t) (visit-at t) visit.Post
-visit-returns-2 t c =
+pub returns-2 : (t : ℕ) → visit-lts.Need-returns-2 (callees t) (visit-at t) visit.Post
+returns-2 t c =
     let g = c .before .before .before .before .before .before .args in
     let pre = c .before .before .before .before .before .before .pre .1 in (
       most-few (g .w) (g .bound) (c .before .most-after .result)
@@ -61,27 +61,27 @@ visit-returns-2 t c =
       λ p le. refl,
     )
 
-pub visit-sub-link-tails : (t : ℕ) → visit-lts.Need-sub-link-tails (callees t) (visit-at t) visit.Post
-visit-sub-link-tails t c = search needs
+pub sub-link-tails : (t : ℕ) → visit-lts.Need-sub-link-tails (callees t) (visit-at t) visit.Post
+sub-link-tails t c = search needs
 
-pub visit-slice-aggregate-link-tails : (t : ℕ) → visit-lts.Need-slice-aggregate-link-tails (callees t) (visit-at t) visit.Post
-visit-slice-aggregate-link-tails t c = search needs
+pub slice-aggregate-link-tails : (t : ℕ) → visit-lts.Need-slice-aggregate-link-tails (callees t) (visit-at t) visit.Post
+slice-aggregate-link-tails t c = search needs
 
-pub visit-slice-aggregate-link-tails-2 : (t : ℕ) → visit-lts.Need-slice-aggregate-link-tails-2 (callees t) (visit-at t) visit.Post
-visit-slice-aggregate-link-tails-2 t c = search needs
+pub slice-aggregate-link-tails-2 : (t : ℕ) → visit-lts.Need-slice-aggregate-link-tails-2 (callees t) (visit-at t) visit.Post
+slice-aggregate-link-tails-2 t c = search needs
 
-pub visit-link-tails-requires : (t : ℕ) → visit-lts.Need-link-tails-requires (callees t) (visit-at t) visit.Post
-visit-link-tails-requires t c κs =
+pub link-tails-requires : (t : ℕ) → visit-lts.Need-link-tails-requires (callees t) (visit-at t) visit.Post
+link-tails-requires t c κs =
     let pre = c .before .before .before .before .before .before .before .before .before .pre .1 in (
       (omega (arith, pre .0), pre .0 .1, pre .0 .2, pre .0 .3, pre .1 .0 .1),
       ((refl, refl, at-most-zero 256), (pre .1 .1 .1 .0, pre .1 .1 .1 .1)),
     )
 
-pub visit-same-length-3 : (t : ℕ) → visit-lts.Need-same-length-3 (callees t) (visit-at t) visit.Post
-visit-same-length-3 t c = search needs
+pub same-length-3 : (t : ℕ) → visit-lts.Need-same-length-3 (callees t) (visit-at t) visit.Post
+same-length-3 t c = search needs
 
-pub visit-returns-3 : (t : ℕ) → visit-lts.Need-returns-3 (callees t) (visit-at t) visit.Post
-visit-returns-3 t c =
+pub returns-3 : (t : ℕ) → visit-lts.Need-returns-3 (callees t) (visit-at t) visit.Post
+returns-3 t c =
     let g = c .before .before .before .before .before .before .before .before .before .before .before .before .before .before .before .args in
     let linked = c .before .before .before .before .before .link-tails in
     let heads = linked .last .1 .1 .1 .1 .1 .0 in
@@ -95,40 +95,40 @@ visit-returns-3 t c =
       linked .ensures .1 .1 .1,
     )
 
-pub visit-shared-slice-read-low : (t : ℕ) → visit-lts.Need-shared-slice-read-low (callees t) (visit-at t) visit.Post
-visit-shared-slice-read-low t c =
+pub shared-slice-read-low : (t : ℕ) → visit-lts.Need-shared-slice-read-low (callees t) (visit-at t) visit.Post
+shared-slice-read-low t c =
     let g = c .before .before .before .before .before .before .before .before .before .before .before .before .before .before .before .before .args in
     let pre = c .before .before .before .before .before .before .before .before .before .before .before .before .before .before .before .before .pre .1 in
     within-rows (g .r) (g .w) (g .bound) (g .rows .now) (g .next .now) (g .head) (g .count) (g .least) (omega (arith, pre .0))
     (omega (arith, pre .1 .0)) (getD (g .rows .now) (g .head) 0) (pre .1 .1 .1 .1)
 
-pub visit-cast-low : (t : ℕ) → visit-lts.Need-cast-low (callees t) (visit-at t) visit.Post
-visit-cast-low t c =
+pub cast-low : (t : ℕ) → visit-lts.Need-cast-low (callees t) (visit-at t) visit.Post
+cast-low t c =
     omega (
       arith,
       c .shared-slice-known2 .given
           (c .before .before .before .before .before .before .before .before .before .before .before .before .before .before .before .before .args .head),
     )
 
-pub visit-add-low : (t : ℕ) → visit-lts.Need-add-low (callees t) (visit-at t) visit.Post
-visit-add-low t c =
+pub add-low : (t : ℕ) → visit-lts.Need-add-low (callees t) (visit-at t) visit.Post
+add-low t c =
     omega (
       arith,
       c .shared-slice-known2 .given
           (c .before .before .before .before .before .before .before .before .before .before .before .before .before .before .before .before .args .head),
     )
 
-pub visit-sub-children : (t : ℕ) → visit-lts.Need-sub-children (callees t) (visit-at t) visit.Post
-visit-sub-children t c = search needs
+pub sub-children : (t : ℕ) → visit-lts.Need-sub-children (callees t) (visit-at t) visit.Post
+sub-children t c = search needs
 
-pub visit-slice-aggregate-children : (t : ℕ) → visit-lts.Need-slice-aggregate-children (callees t) (visit-at t) visit.Post
-visit-slice-aggregate-children t c = search needs
+pub slice-aggregate-children : (t : ℕ) → visit-lts.Need-slice-aggregate-children (callees t) (visit-at t) visit.Post
+slice-aggregate-children t c = search needs
 
-pub visit-slice-aggregate-children-2 : (t : ℕ) → visit-lts.Need-slice-aggregate-children-2 (callees t) (visit-at t) visit.Post
-visit-slice-aggregate-children-2 t c = search needs
+pub slice-aggregate-children-2 : (t : ℕ) → visit-lts.Need-slice-aggregate-children-2 (callees t) (visit-at t) visit.Post
+slice-aggregate-children-2 t c = search needs
 
-pub visit-children-requires : (t : ℕ) → visit-lts.Need-children-requires (callees t) (visit-at t) visit.Post
-visit-children-requires t c κs =
+pub children-requires : (t : ℕ) → visit-lts.Need-children-requires (callees t) (visit-at t) visit.Post
+children-requires t c κs =
     let g = c .before .before .before .before .before .before .before .before .before .before .before .before .before .before .before .before .before .before .before .args in
     let pre = c .before .before .before .before .before .before .before .before .before .before .before .before .before .before .before .before .before .before .before .pre .1 in
     let linked = c .before .before .before .before .before .before .before .before .before .link-tails in
@@ -154,11 +154,11 @@ visit-children-requires t c κs =
       ),
     )
 
-pub visit-same-length-4 : (t : ℕ) → visit-lts.Need-same-length-4 (callees t) (visit-at t) visit.Post
-visit-same-length-4 t c = search needs
+pub same-length-4 : (t : ℕ) → visit-lts.Need-same-length-4 (callees t) (visit-at t) visit.Post
+same-length-4 t c = search needs
 
-pub visit-returns-4 : (t : ℕ) → visit-lts.Need-returns-4 (callees t) (visit-at t) visit.Post
-visit-returns-4 t c =
+pub returns-4 : (t : ℕ) → visit-lts.Need-returns-4 (callees t) (visit-at t) visit.Post
+returns-4 t c =
     let g = c .before .before .before .before .before .before .before .before .before .before .before .before .before .before .before .before .before .before .before .before .before .before .args in
     let linked = c .before .before .before .before .before .before .before .before .before .before .before .before .link-tails in
     let heads = linked .last .1 .1 .1 .1 .1 .0 in
