@@ -21,10 +21,10 @@ NAMED = {
     "a planner that writes nothing": ["planner_head/head-not-written", "planner_writer/length-of-the-head"],
     "a 9 given before the block counts are read": ["planner_order/nine-unread", "planner/nine-before-twelve"],
     "a planner that uses layer 0 for everything": ["planner_code/split-over-layer-0"],
-    "a walk that says end early": ["walk/end-early", "walk_code/code-ends-early"],
+    "a walk that says end early": ["walk/end-early", "walk_rows/code-ends-early"],
     "C(r,x+1) where C(s,x+1) belongs": ["placement/r-for-s", "planner_writer/figure-by-r"],
     "one floor over the summed layers": ["placement/one-floor"],
-    "sets of x nodes": ["packing/sets-of-x"],
+    "sets of x nodes": ["packing/sets-of-x", "crowding_visits/sets-of-x"],
     "neighbours in a row only": ["packing/neighbours-only"],
     "filling one layer only": ["split/top-layer-only", "planner_writer/one-layer-only"],
 }

@@ -1,18 +1,25 @@
 // The highest node of rows, and the least row number of a chain.
 ghost use mathlib.Core.Path.{_≡_};
-ghost use Prim.Native.Nat.{_<_};
+ghost use Prim.Native.Nat.{max, _<_};
 ghost use lib.ListN.{length};
 ghost use Rattle.lists.specs.Lists.{All, largest};
 ghost use Rattle.crowding.specs.Chains.{follow, lowestAt};
 
+// `minmax::larger` on bytes, many of which are compared at once.
+fn higher(a: u8, b: u8) -> u8
+    ensures { λ r. ⌜ r ≡ max a b ⌝ }
+{
+    if a <= b { b } else { a }
+}
+
 // The highest node, 0 where there is none.
-pub fn highest(rows: &[u8]) -> usize
+pub fn highest(rows: &[u8]) -> u8
     ensures { λ high. ⌜ high ≡ largest (now (rows .entry)) ⌝ }
 {
     let mut p: usize = 0;
-    let mut high: usize = 0;
+    let mut high: u8 = 0;
     while p < rows.len() {
-        high = minmax::larger(high, rows[p] as usize);
+        high = higher(high, rows[p]);
         p += 1;
     }
     high

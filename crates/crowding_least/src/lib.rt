@@ -23,6 +23,6 @@ pub fn least_crowded(
     let mut heads = [0u16; 256];
     let mut counts = [0u16; 256];
     crowding_rows::link_rows(rows, c, r, x, &mut heads, &mut counts, next);
-    let high = crowding_extremes::highest(rows) + 1;
+    let high = crowding_extremes::highest(rows) as usize + 1;
     crowding_visits::children(rows, r, x, bound, high, &heads, &counts, 0, next, 65536)
 }

@@ -19,14 +19,11 @@ abbrev μ-loop : tie.MeasureT-loop
 loop-holds : tie.Need-loop-holds Inv-loop μ-loop
 loop-holds c = search needs
 
-shared-slice-read-larger : tie.Need-shared-slice-read-larger Inv-loop μ-loop
-shared-slice-read-larger c = search needs
+shared-slice-read-higher : tie.Need-shared-slice-read-higher Inv-loop μ-loop
+shared-slice-read-higher c = search needs
 
-cast-larger : tie.Need-cast-larger Inv-loop μ-loop
-cast-larger c = omega (arith, c .shared-slice-known2 .given (c .before .before .loop .p))
-
-larger-requires : tie.Need-larger-requires Inv-loop μ-loop
-larger-requires c κs = search needs
+higher-requires : tie.Need-higher-requires Inv-loop μ-loop
+higher-requires c κs = search needs
 
 add-p : tie.Need-add-p Inv-loop μ-loop
 add-p c = search needs
@@ -41,7 +38,7 @@ loop-again c =
       omega arith,
       l .inv .1
           ∙ largest-next rows (l .p) (l .high) (c .before .before .loop-test .taken)
-          ∙ ap (λ high. max high (largest (drop (l .p + 1) rows))) (sym (c .larger .ensures)),
+          ∙ ap (λ high. max high (largest (drop (l .p + 1) rows))) (sym (c .higher .ensures)),
     )
 
 returns : tie.Need-returns Inv-loop μ-loop
@@ -57,9 +54,8 @@ highest-spec =
     Inv-loop
     μ-loop
     loop-holds
-    shared-slice-read-larger
-    cast-larger
-    larger-requires
+    shared-slice-read-higher
+    higher-requires
     add-p
     loop-less
     loop-again

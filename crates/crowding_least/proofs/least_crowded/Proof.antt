@@ -2,7 +2,7 @@
 use Prim.Native.Nat.{suc}
 use mathlib.Core.Path.{refl, _∙_}
 use native.Mathlib.Nat.{mul-le-mul}
-use Rattle.lists.proofs.Largest.{largest-le, largest-most}
+use Rattle.lists.proofs.Largest.{largest-le}
 use Rattle.packing.specs.Rows.{rowsAt}
 use Rattle.crowding.specs.Tails.{rowTails}
 use Rattle.crowding.proofs.Follow.{at-most-zero}
@@ -28,11 +28,11 @@ link-rows-requires c κs =
 highest-requires : tie.Need-highest-requires
 highest-requires c κs = search needs
 
+cast-high : tie.Need-cast-high
+cast-high c = search needs
+
 add-high : tie.Need-add-high
-add-high c =
-    let rows = c .before .before .before .before .before .before .before .before .before .before .before .args .rows .now in
-    let byte = c .before .before .before .before .before .before .before .before .before .before .shared-slice-known .given in
-    omega (arith, largest-most rows 255 (λ i. omega (arith, byte i)), c .highest .ensures)
+add-high c = search needs
 
 slice-aggregate-children : tie.Need-slice-aggregate-children
 slice-aggregate-children c = search needs
@@ -45,7 +45,6 @@ children-requires c κs =
     let g = c .before .before .before .before .before .before .before .before .before .before .before .before .before .before .args in
     let pre = c .before .before .before .before .before .before .before .before .before .before .before .before .before .before .pre in
     let five = mul-le-mul {n₁ = g .c} {m₁ = g .r} {n₂ = 4096} {m₂ = 5} (pre .0 .0) (pre .0 .1) in
-    let byte = c .before .before .before .before .before .before .before .before .before .before .before .before .before .shared-slice-known .given in
     let high = c .before .before .before .highest .ensures in
     let linked = c .before .before .before .before .before .before .before .before .link-rows in
     let heads = linked .last .1 .1 .1 .1 .0 in
@@ -56,7 +55,7 @@ children-requires c κs =
         (linked .kept .1 .1 .1 .1 .0, linked .kept .1 .1 .1 .1 .1 .0, λ v. omega (arith, linked .ensures .1 .1 v, pre .0)),
         (
           (
-            omega (arith, largest-most (g .rows .now) 255 (λ i. omega (arith, byte i)), high),
+            omega (arith, c .before .before .before .highest .ok),
             λ p lt. omega (arith, largest-le (g .rows .now) p, high),
             omega arith,
             λ u lt. absurd (omega (arith, lt)),
@@ -88,6 +87,7 @@ least-crowded-spec =
     slice-aggregate-link-rows-2
     link-rows-requires
     highest-requires
+    cast-high
     add-high
     slice-aggregate-children
     slice-aggregate-children-2
