@@ -19,10 +19,15 @@ fn reply(input: &[u8], out: &mut [u8]) -> usize
     length
 }
 
+// Prints the line for the input.
+fn answer(input: &[u8]) {
+    let mut out = [0u8; 200];
+    let length = reply(input, &mut out);
+    io::write_all(STDOUT_FILENO, &out[0..length]);
+}
+
 fn main() {
     let mut buffer = [0u8; 32768];
     let n = io::read_full(STDIN_FILENO, &mut buffer);
-    let mut out = [0u8; 200];
-    let length = reply(&buffer[0..n], &mut out);
-    io::write_all(STDOUT_FILENO, &out[0..length]);
+    answer(&buffer[0..n]);
 }

@@ -50,32 +50,67 @@ fn build(rows: &mut [u8])
     }
 }
 
-// Writes a line: the first of the c rows that holds x+1 nodes in more than `bound` of them, or none.
-fn tell(rows: &[u8], c: usize, x: usize, bound: usize)
-    requires { ⌜ (c ≤ 4096) × (x < 5) × (length (now rows) ≡ 20480) × Grouped (now rows) ⌝ }
-{
-    let found = crowding_code::first_crowded(rows, c, 5, x, bound);
+fn say(text: &[u8]) {
+    io::write_all(1, text);
+}
+
+// Writes a row's number, or none.
+fn put_found(found: RowFound) {
     match found {
         RowFound::At(row) => {
             io::print_decimal(1, row.0 as u64);
         }
         RowFound::Nothing => {
-            io::write_all(1, b"none");
+            say(b"none");
         }
     }
-    io::write_all(1, b"\n");
+}
+
+// Writes a line: the first of the c rows that holds x+1 nodes in more than `bound` of them, or none.
+fn tell(rows: &[u8], c: usize, x: usize, bound: usize)
+    requires { ⌜ (c ≤ 4096) × (x < 5) × (length (now rows) ≡ 20480) × Grouped (now rows) ⌝ }
+{
+    put_found(crowding_code::first_crowded(rows, c, 5, x, bound));
+    say(b"\n");
+}
+
+// The lines of sets of three nodes.
+fn tell_threes(rows: &[u8])
+    requires { ⌜ (length (now rows) ≡ 20480) × Grouped (now rows) ⌝ }
+{
+    tell(rows, 4096, 2, 1);
+    tell(rows, 4096, 2, 2);
+    tell(rows, 4095, 2, 1);
+}
+
+// The lines of pairs.
+fn tell_pairs(rows: &[u8])
+    requires { ⌜ (length (now rows) ≡ 20480) × Grouped (now rows) ⌝ }
+{
+    tell(rows, 4096, 1, 16);
+    tell(rows, 4096, 1, 15);
+    tell(rows, 300, 1, 1);
+}
+
+// The lines of single nodes and of whole rows.
+fn tell_others(rows: &[u8])
+    requires { ⌜ (length (now rows) ≡ 20480) × Grouped (now rows) ⌝ }
+{
+    tell(rows, 4096, 0, 241);
+    tell(rows, 4096, 0, 256);
+    tell(rows, 4096, 4, 0);
+}
+
+fn tell_all(rows: &[u8])
+    requires { ⌜ (length (now rows) ≡ 20480) × Grouped (now rows) ⌝ }
+{
+    tell_threes(rows);
+    tell_pairs(rows);
+    tell_others(rows);
 }
 
 fn main() {
     let mut rows = [0u8; 20480];
     build(&mut rows);
-    tell(&rows, 4096, 2, 1);
-    tell(&rows, 4096, 2, 2);
-    tell(&rows, 4095, 2, 1);
-    tell(&rows, 4096, 1, 16);
-    tell(&rows, 4096, 1, 15);
-    tell(&rows, 300, 1, 1);
-    tell(&rows, 4096, 0, 241);
-    tell(&rows, 4096, 0, 256);
-    tell(&rows, 4096, 4, 0);
+    tell_all(&rows);
 }

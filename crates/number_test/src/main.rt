@@ -4,49 +4,59 @@ use number::NumberRead;
 use number::NumberWritten;
 use refusal::Refusal;
 
-// Prints a space and `n`.
-fn put(n: usize) {
-    io::write_all(1, b" ");
+fn say(text: &[u8]) {
+    io::write_all(1, text);
+}
+
+// Prints the text and `n`.
+fn put(text: &[u8], n: usize) {
+    say(text);
     io::print_decimal(1, n as u64);
+}
+
+// Prints a space and `n`.
+fn put_next(n: usize) {
+    put(b" ", n);
 }
 
 // Prints a space and each byte.
 fn put_bytes(bytes: &[u8]) {
     let mut i = 0;
     while i < bytes.len() {
-        put(bytes[i] as usize);
+        put_next(bytes[i] as usize);
         i += 1;
     }
 }
 
 // Prints the refusal's number and place.
 fn put_refusal(e: Refusal) {
-    io::write_all(1, b" refused");
-    put(refusal::number(e));
-    put(refusal::place(e));
+    put(b" refused ", refusal::number(e));
+    put_next(refusal::place(e));
+}
+
+// Prints the value and the next place.
+fn put_value(v: usize, next: usize) {
+    put(b" value ", v);
+    put_next(next);
 }
 
 // Prints the value and the next place, or the refusal.
 fn put_read(r: NumberRead) {
     match r {
         NumberRead::Value(v, next) => {
-            io::write_all(1, b" value");
-            put(v);
-            put(next);
+            put_value(v, next);
         }
         NumberRead::Refused(e) => {
             put_refusal(e);
         }
     }
-    io::write_all(1, b"\n");
 }
 
 // Prints how many bytes were written, or the refusal.
 fn put_written(r: NumberWritten) {
     match r {
         NumberWritten::Written(n) => {
-            io::write_all(1, b" written");
-            put(n);
+            put(b" written ", n);
         }
         NumberWritten::Refused(e) => {
             put_refusal(e);
@@ -54,38 +64,51 @@ fn put_written(r: NumberWritten) {
     }
 }
 
+// The rest of a reading's line.
+fn tell_read(bytes: &[u8], at: usize, r: NumberRead) {
+    put_bytes(bytes);
+    put(b" at ", at);
+    put_read(r);
+    say(b"\n");
+}
+
 // The line of a reading.
 fn read(bytes: &[u8], at: usize) {
-    io::write_all(1, b"read");
-    put_bytes(bytes);
-    io::write_all(1, b" at");
-    put(at);
-    put_read(number_reader::read_number(bytes, at));
+    say(b"read");
+    tell_read(bytes, at, number_reader::read_number(bytes, at));
+}
+
+fn put_limits(lo: usize, hi: usize) {
+    put(b"within ", lo);
+    put_next(hi);
 }
 
 // The line of a reading within limits.
 fn within(bytes: &[u8], at: usize, lo: usize, hi: usize) {
-    io::write_all(1, b"within");
-    put(lo);
-    put(hi);
-    io::write_all(1, b" read");
-    put_bytes(bytes);
-    io::write_all(1, b" at");
-    put(at);
-    put_read(number_reader::read_within(bytes, at, lo, hi));
+    put_limits(lo, hi);
+    say(b" read");
+    tell_read(bytes, at, number_reader::read_within(bytes, at, lo, hi));
+}
+
+// The start of a writing's line.
+fn put_write(v: usize, room: usize) {
+    put(b"write ", v);
+    put(b" room ", room);
+}
+
+// The end of a writing's line: the bytes afterwards.
+fn put_left(out: &[u8]) {
+    say(b" leaves");
+    put_bytes(out);
+    say(b"\n");
 }
 
 // The line of a writing into `out`, with the bytes of `out` afterwards.
 fn write_to(out: &mut [u8], v: usize) {
-    io::write_all(1, b"write");
-    put(v);
-    io::write_all(1, b" room");
-    put(out.len());
+    put_write(v, out.len());
     let r = number_writer::write_number(out, v);
     put_written(r);
-    io::write_all(1, b" leaves");
-    put_bytes(out);
-    io::write_all(1, b"\n");
+    put_left(out);
 }
 
 // Writes into `room` bytes that are all 9.
@@ -96,38 +119,61 @@ fn write(room: usize, v: usize)
     write_to(&mut out[0..room], v);
 }
 
-// Forms of each length, and the largest of each.
-fn forms() {
+// One group and two.
+fn short_forms() {
     read(b"\x00", 0);
     read(b"\x7f", 0);
     read(b"\x80\x01", 0);
     read(b"\xac\x02", 0);
     read(b"\xff\x7f", 0);
+}
+
+// Three groups.
+fn long_forms() {
     read(b"\x80\x80\x01", 0);
     read(b"\x81\x80\x01", 0);
     read(b"\xff\xff\x7f", 0);
+}
+
+// Four groups, and numbers with other bytes around them.
+fn longest_forms() {
     read(b"\x80\x80\x80\x01", 0);
     read(b"\xff\xff\xff\x7f", 0);
     read(b"\xff\xff\xff\x7f\x07", 0);
     read(b"\x05\xac\x02\x07", 1);
 }
 
-// Inputs that end inside a number, and places past the end.
-fn cut_short() {
+// Forms of each length, and the largest of each.
+fn forms() {
+    short_forms();
+    long_forms();
+    longest_forms();
+}
+
+// Places past the end of one byte.
+fn past_the_end(bytes: &[u8]) {
+    read(bytes, 1);
+    read(bytes, 2);
+    read(bytes, 18446744073709551615);
+}
+
+// Inputs that end inside a number.
+fn ended() {
     read(b"", 0);
     read(b"\x80", 0);
     read(b"\x80\x80", 0);
-    read(b"\x80\x80\x80", 0);
-    read(b"\x05\x80", 1);
-    read(b"\x05", 1);
-    read(b"\x05", 2);
-    read(b"\x05", 18446744073709551615);
 }
 
-// Four groups all with the top bit, and zero last groups.
-fn malformed() {
-    read(b"\x80\x80\x80\x80", 0);
-    read(b"\xff\xff\xff\xff\x01", 0);
+// Inputs that end inside a number, and places past the end.
+fn cut_short() {
+    ended();
+    read(b"\x80\x80\x80", 0);
+    read(b"\x05\x80", 1);
+    past_the_end(b"\x05");
+}
+
+// Zero last groups.
+fn zero_last() {
     read(b"\x80\x00", 0);
     read(b"\x80\x80\x00", 0);
     read(b"\x80\x80\x80\x00", 0);
@@ -135,14 +181,31 @@ fn malformed() {
     read(b"\x05\x80\x00", 1);
 }
 
+// Four groups all with the top bit, and zero last groups.
+fn malformed() {
+    read(b"\x80\x80\x80\x80", 0);
+    read(b"\xff\xff\xff\xff\x01", 0);
+    zero_last();
+}
+
+// Limits of a number at the start, 300.
+fn limits_at_start(bytes: &[u8]) {
+    within(bytes, 0, 0, 300);
+    within(bytes, 0, 0, 299);
+    within(bytes, 0, 300, 400);
+    within(bytes, 0, 301, 400);
+}
+
+// Limits of a number at the second byte, 300.
+fn limits_after(bytes: &[u8]) {
+    within(bytes, 1, 301, 400);
+    within(bytes, 1, 2, 299);
+}
+
 // Limits, and what is checked before them.
 fn limits() {
-    within(b"\xac\x02", 0, 0, 300);
-    within(b"\xac\x02", 0, 0, 299);
-    within(b"\xac\x02", 0, 300, 400);
-    within(b"\xac\x02", 0, 301, 400);
-    within(b"\x05\xac\x02", 1, 301, 400);
-    within(b"\x05\xac\x02", 1, 2, 299);
+    limits_at_start(b"\xac\x02");
+    limits_after(b"\x05\xac\x02");
     within(b"\x80\x00", 0, 5, 9);
     within(b"\x80", 0, 5, 9);
 }

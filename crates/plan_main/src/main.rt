@@ -19,11 +19,16 @@ fn reply(input: &[u8], work: &mut [u16], out: &mut [u8]) -> usize
     length
 }
 
+// Writes the reply for the input.
+fn answer(input: &[u8]) {
+    let mut work = [0u16; 20485];
+    let mut out = [0u8; 20544];
+    let length = reply(input, &mut work, &mut out);
+    io::write_all(STDOUT_FILENO, &out[0..length]);
+}
+
 fn main() {
     let mut buffer = [0u8; 32768];
     let n = io::read_full(STDIN_FILENO, &mut buffer);
-    let mut work = [0u16; 20485];
-    let mut out = [0u8; 20544];
-    let length = reply(&buffer[0..n], &mut work, &mut out);
-    io::write_all(STDOUT_FILENO, &out[0..length]);
+    answer(&buffer[0..n]);
 }

@@ -5,18 +5,6 @@ ghost use mathlib.Core.List.{_++_, flatten};
 ghost use lib.ListN.{length, drop};
 ghost use Rattle.packing.specs.Rows.{rowsAt, repeated};
 
-// Writes the row, or other bytes, to the start of `out`.
-pub fn copy_row(out: &mut [u8], row: &[u8])
-    requires { ⌜ length (now row) ≤ length (now out) ⌝ }
-    ensures { λ _. ⌜ now (out .exit) ≡ now (row .entry) ++ drop (length (now (row .entry))) (now (out .entry)) ⌝ }
-{
-    let mut place: usize = 0;
-    while place < row.len() {
-        out[place] = row[place];
-        place += 1;
-    }
-}
-
 // The number of the block that follows: after the last of m blocks the first one.
 fn next_block(block: usize, m: usize) -> usize
     requires { ⌜ block < m ⌝ }
@@ -44,7 +32,7 @@ pub fn write_rows(out: &mut [u8], blocks: &[u8], m: usize, r: usize, c: usize)
     while written < c {
         let from = block * r;
         let end = from + r;
-        copy_row(&mut out[to..], &blocks[from..end]);
+        rows_copy::copy_row(&mut out[to..], &blocks[from..end]);
         to += r;
         block = next_block(block, m);
         written += 1;

@@ -14,28 +14,32 @@ fn of_four(a: u8, b: u8, c: u8, d: u8) -> usize {
     low + 65_536 * high
 }
 
+// Fills the slice from standard input; false where the input has fewer bytes.
+fn fill(part: &mut [u8]) -> bool {
+    let n = io::read_full(STDIN_FILENO, part);
+    n == part.len()
+}
+
 // The number in the next four bytes of standard input, lowest first; the largest where there are fewer.
-fn next_length(four: &mut [u8]) -> usize
-    requires { ⌜ length (now four) ≡ 4 ⌝ }
-{
-    if io::read_full(STDIN_FILENO, four) < 4 {
-        return 4_294_967_295;
+fn next_length() -> usize {
+    let mut four = [0u8; 4];
+    if fill(&mut four) {
+        return of_four(four[0], four[1], four[2], four[3]);
     }
-    of_four(four[0], four[1], four[2], four[3])
+    4_294_967_295
 }
 
 // Reads a length and then so many bytes to the start of `part`, and answers the length; a larger one than `part` has where the
 // input has no such bytes.
 fn read_part(part: &mut [u8]) -> usize {
-    let mut four = [0u8; 4];
-    let n = next_length(&mut four);
+    let n = next_length();
     if part.len() < n {
         return n;
     }
-    if io::read_full(STDIN_FILENO, &mut part[0..n]) < n {
-        return 4_294_967_295;
+    if fill(&mut part[0..n]) {
+        return n;
     }
-    n
+    4_294_967_295
 }
 
 // Whether the two are the same bytes.
@@ -76,6 +80,17 @@ fn known(number: usize) -> usize
     number
 }
 
+// The number in the two bytes after `refused `: two digits, or one and a space.
+fn number_in(first: u8, second: u8) -> usize
+    ensures { λ r. ⌜ r < 13 ⌝ }
+{
+    let number = digit(first);
+    if second == b' ' {
+        return known(number);
+    }
+    known(10 * number + digit(second))
+}
+
 // The number in the line of a refusal, 0 for any other reply.
 fn kind(reply: &[u8]) -> usize
     ensures { λ r. ⌜ r < 13 ⌝ }
@@ -86,20 +101,7 @@ fn kind(reply: &[u8]) -> usize
     if !same(&reply[0..8], b"refused ") {
         return 0;
     }
-    let first = digit(reply[8]);
-    if reply[9] == b' ' {
-        return known(first);
-    }
-    known(10 * first + digit(reply[9]))
-}
-
-// One more of the count at `i`; a count stops at a million.
-fn count(counts: &mut [usize], i: usize)
-    requires { ⌜ i < length (now counts) ⌝ }
-{
-    if counts[i] < 1_000_000 {
-        counts[i] += 1;
-    }
+    number_in(reply[8], reply[9])
 }
 
 // Puts what `check` prints at the start of `out`, and answers its length; 0 where the slice is refused.
@@ -122,121 +124,158 @@ fn planned(input: &[u8], work: &mut [u16], out: &mut [u8]) -> usize
     n
 }
 
-// The one or the other.
-fn replied(plans: bool, input: &[u8], work: &mut [u16], out: &mut [u8]) -> usize
-    ensures { λ r. ⌜ r ≤ length (now (out .exit)) ⌝ }
-{
-    if plans {
-        return planned(input, work, out);
-    }
-    checked(input, out)
+// Whether `check` prints what is expected. The slices lent are not zero before, so a byte that is left out shows.
+fn check_agrees(input: &[u8], expected: &[u8]) -> bool {
+    let mut out = [170u8; 20544];
+    let n = checked(input, &mut out);
+    same(&out[0..n], expected)
 }
 
-// Runs one vector: counts the kind of its expected reply, and at 13 whether the reply differs.
-fn run_one(
-    plans: bool,
-    input: &[u8],
-    expected: &[u8],
-    work: &mut [u16],
-    out: &mut [u8],
-    counts: &mut [usize],
-)
-    requires { ⌜ length (now counts) ≡ 14 ⌝ }
+// Whether `plan` writes what is expected.
+fn plan_agrees(input: &[u8], expected: &[u8]) -> bool {
+    let mut work = [43690u16; 20485];
+    let mut out = [170u8; 20544];
+    let n = planned(input, &mut work, &mut out);
+    same(&out[0..n], expected)
+}
+
+// The one or the other.
+fn agrees(plans: bool, input: &[u8], expected: &[u8]) -> bool {
+    if plans {
+        return plan_agrees(input, expected);
+    }
+    check_agrees(input, expected)
+}
+
+// Runs one vector: the kind of its expected reply, with 13 more where the reply differs.
+fn run_one(plans: bool, input: &[u8], expected: &[u8]) -> usize
+    ensures { λ r. ⌜ r ≤ 25 ⌝ }
 {
-    count(counts, kind(expected));
-    let n = replied(plans, input, work, out);
-    if same(&out[0..n], expected) {
+    let kind = kind(expected);
+    if agrees(plans, input, expected) {
+        return kind;
+    }
+    kind + 13
+}
+
+// Reads the expected reply and runs the vector; 26 where there is no such reply.
+fn run_input(plans: bool, input: &[u8]) -> usize
+    ensures { λ r. ⌜ r ≤ 26 ⌝ }
+{
+    let mut expected = [0u8; 20544];
+    let n = read_part(&mut expected);
+    if 20544 < n {
+        return 26;
+    }
+    run_one(plans, input, &expected[0..n])
+}
+
+// Reads a vector and runs it; 26 at the input's end and where a length is one that no vector has. One byte more than the
+// programs read fits the input.
+fn run_next(plans: bool) -> usize
+    ensures { λ r. ⌜ r ≤ 26 ⌝ }
+{
+    let mut input = [0u8; 32769];
+    let n = read_part(&mut input);
+    if 32769 < n {
+        return 26;
+    }
+    run_input(plans, &input[0..n])
+}
+
+// One more of the count at `i`; a count stops at a million.
+fn count(counts: &mut [usize], i: usize)
+    requires { ⌜ i < length (now counts) ⌝ }
+{
+    if counts[i] < 1_000_000 {
+        counts[i] += 1;
+    }
+}
+
+// Counts the kind of a vector's expected reply, and at 13 whether the reply differed.
+fn record(counts: &mut [usize], result: usize)
+    requires { ⌜ (length (now counts) ≡ 14) × (result ≤ 25) ⌝ }
+{
+    if result < 13 {
+        count(counts, result);
         return;
     }
+    count(counts, result - 13);
     count(counts, 13);
 }
 
 // Runs the vectors up to the input's end or a length that no vector has, and answers how many there were.
-fn run(
-    plans: bool,
-    input: &mut [u8],
-    expected: &mut [u8],
-    work: &mut [u16],
-    out: &mut [u8],
-    counts: &mut [usize],
-) -> usize
+fn run(plans: bool, counts: &mut [usize]) -> usize
     requires { ⌜ length (now counts) ≡ 14 ⌝ }
 {
     let mut cases: usize = 0;
     while cases < 1_000_000 {
-        let n = read_part(input);
-        if input.len() < n {
+        let result = run_next(plans);
+        if 25 < result {
             return cases;
         }
-        let m = read_part(expected);
-        if expected.len() < m {
-            return cases;
-        }
-        run_one(plans, &input[0..n], &expected[0..m], work, out, counts);
+        record(counts, result);
         cases += 1;
     }
     cases
 }
 
-fn put(n: usize) {
-    io::write_all(STDOUT_FILENO, b" ");
+fn say(text: &[u8]) {
+    io::write_all(STDOUT_FILENO, text);
+}
+
+fn put(text: &[u8], n: usize) {
+    say(text);
     io::print_decimal(STDOUT_FILENO, n as u64);
 }
 
-fn put_name(plans: bool) {
-    if plans {
-        io::write_all(STDOUT_FILENO, b"plan");
+fn put_kind(kind: usize) {
+    if kind == 0 {
+        say(b" result");
         return;
     }
-    io::write_all(STDOUT_FILENO, b"check");
+    put(b" refused ", kind);
+}
+
+// The end of a line: a number and a newline.
+fn end(text: &[u8], n: usize) {
+    put(text, n);
+    say(b"\n");
 }
 
 // The line of how many vectors had replies of the kind.
-fn put_kind(plans: bool, kind: usize, many: usize) {
-    put_name(plans);
-    if kind == 0 {
-        io::write_all(STDOUT_FILENO, b" result");
-    } else {
-        io::write_all(STDOUT_FILENO, b" refused");
-        put(kind);
-    }
-    put(many);
-    io::write_all(STDOUT_FILENO, b"\n");
+fn tell_kind(name: &[u8], kind: usize, many: usize) {
+    say(name);
+    put_kind(kind);
+    end(b" ", many);
 }
 
-// The line of how many vectors there were and how many replies differed, then one for each kind.
-fn tell(plans: bool, cases: usize, counts: &[usize])
+// The line of how many vectors there were and how many replies differed.
+fn tell_cases(name: &[u8], cases: usize, wrong: usize) {
+    say(name);
+    put(b" cases ", cases);
+    end(b" wrong ", wrong);
+}
+
+// A line for each kind.
+fn tell_kinds(name: &[u8], counts: &[usize])
     requires { ⌜ length (now counts) ≡ 14 ⌝ }
 {
-    put_name(plans);
-    io::write_all(STDOUT_FILENO, b" cases");
-    put(cases);
-    io::write_all(STDOUT_FILENO, b" wrong");
-    put(counts[13]);
-    io::write_all(STDOUT_FILENO, b"\n");
     let mut i: usize = 0;
     while i < 13 {
-        put_kind(plans, i, counts[i]);
+        tell_kind(name, i, counts[i]);
         i += 1;
     }
 }
 
-fn run_kind(plans: bool, input: &mut [u8], expected: &mut [u8], work: &mut [u16], out: &mut [u8]) {
+fn run_kind(plans: bool, name: &[u8]) {
     let mut counts = [0usize; 14];
-    let cases = run(plans, input, expected, work, out, &mut counts);
-    tell(plans, cases, &counts);
+    let cases = run(plans, &mut counts);
+    tell_cases(name, cases, counts[13]);
+    tell_kinds(name, &counts);
 }
 
-fn run_both(input: &mut [u8], expected: &mut [u8], work: &mut [u16], out: &mut [u8]) {
-    run_kind(false, input, expected, work, out);
-    run_kind(true, input, expected, work, out);
-}
-
-// One byte more than the programs read fits the input.
 fn main() {
-    let mut input = [0u8; 32769];
-    let mut expected = [0u8; 20544];
-    let mut work = [0u16; 20485];
-    let mut out = [0u8; 20544];
-    run_both(&mut input, &mut expected, &mut work, &mut out);
+    run_kind(false, b"check");
+    run_kind(true, b"plan");
 }

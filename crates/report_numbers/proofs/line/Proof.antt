@@ -1,0 +1,22 @@
+-- `report_numbers::line` meets its contract: the word, and then the numbers from its end on. Assumes nothing.
+use borrow.Author.Needs.{needs}
+use Rattle.report_numbers.proofs.Lines.{line-replied}
+use Rattle.report_numbers.proofs.line.Statement.{statement}
+use Rattle.report_numbers.proofs.line.Tie as tie
+
+copy-row-requires : tie.Need-copy-row-requires
+copy-row-requires c κs = search needs
+
+put-rest-requires : tie.Need-put-rest-requires
+put-rest-requires c κs = search needs
+
+same-length : tie.Need-same-length
+same-length c = search needs
+
+returns : tie.Need-returns
+returns c =
+    let s = c .before .before .before .before .before .before .before .before .before .before .before in
+    line-replied (s .args .word .now) _ _ _ _ _ (s .pre) (c .before .before .before .before .before .before .copy-row .ensures) (c .before .before .put-rest .ensures)
+
+pub line-spec : {M : Type 1} → statement M
+line-spec = tie.close (tie.spec copy-row-requires put-rest-requires same-length returns)
