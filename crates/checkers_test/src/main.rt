@@ -59,28 +59,36 @@ fn said_of(packs: bool, file: &[u8]) -> Verdict {
     of_placement(file)
 }
 
+fn say(text: &[u8]) {
+    io::write_all(STDOUT_FILENO, text);
+}
+
 fn put(n: usize) {
-    io::write_all(STDOUT_FILENO, b" ");
+    say(b" ");
     io::print_decimal(STDOUT_FILENO, n as u64);
 }
 
 fn put_name(packs: bool) {
     if packs {
-        io::write_all(STDOUT_FILENO, b"pack");
+        say(b"pack");
         return;
     }
-    io::write_all(STDOUT_FILENO, b"placement");
+    say(b"placement");
+}
+
+fn put_refused(number: usize, place: usize) {
+    say(b" refused");
+    put(number);
+    put(place);
+    say(b"\n");
 }
 
 fn put_verdict(v: Verdict) {
     if v.number == 0 {
-        io::write_all(STDOUT_FILENO, b" accepted\n");
+        say(b" accepted\n");
         return;
     }
-    io::write_all(STDOUT_FILENO, b" refused");
-    put(v.number);
-    put(v.place);
-    io::write_all(STDOUT_FILENO, b"\n");
+    put_refused(v.number, v.place);
 }
 
 // A line for each length: what is said of the file's first bytes.
@@ -131,16 +139,20 @@ fn changed_at(packs: bool, file: &mut [u8], at: usize) -> usize
     h
 }
 
+// The line of a place and its checksum.
+fn tell_changed(packs: bool, at: usize, h: usize) {
+    put_name(packs);
+    say(b" changed");
+    put(at);
+    put(h);
+    say(b"\n");
+}
+
 // A line for each place: the checksum of the answers on the file with that byte changed.
 fn changed(packs: bool, file: &mut [u8]) {
     let mut at: usize = 0;
     while at < file.len() {
-        let h = changed_at(packs, file, at);
-        put_name(packs);
-        io::write_all(STDOUT_FILENO, b" changed");
-        put(at);
-        put(h);
-        io::write_all(STDOUT_FILENO, b"\n");
+        tell_changed(packs, at, changed_at(packs, file, at));
         at += 1;
     }
 }

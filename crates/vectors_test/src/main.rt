@@ -147,38 +147,37 @@ fn agrees(plans: bool, input: &[u8], expected: &[u8]) -> bool {
     check_agrees(input, expected)
 }
 
-// Runs one vector: the kind of its expected reply, with 13 more where the reply differs.
+// Runs one vector: the kind of its reply, 13 where the reply is not the expected one.
 fn run_one(plans: bool, input: &[u8], expected: &[u8]) -> usize
-    ensures { λ r. ⌜ r ≤ 25 ⌝ }
+    ensures { λ r. ⌜ r ≤ 13 ⌝ }
 {
-    let kind = kind(expected);
     if agrees(plans, input, expected) {
-        return kind;
+        return kind(expected);
     }
-    kind + 13
+    13
 }
 
-// Reads the expected reply and runs the vector; 26 where there is no such reply.
+// Reads the expected reply and runs the vector; 14 where there is no such reply.
 fn run_input(plans: bool, input: &[u8]) -> usize
-    ensures { λ r. ⌜ r ≤ 26 ⌝ }
+    ensures { λ r. ⌜ r ≤ 14 ⌝ }
 {
     let mut expected = [0u8; 20544];
     let n = read_part(&mut expected);
     if 20544 < n {
-        return 26;
+        return 14;
     }
     run_one(plans, input, &expected[0..n])
 }
 
-// Reads a vector and runs it; 26 at the input's end and where a length is one that no vector has. One byte more than the
+// Reads a vector and runs it; 14 at the input's end and where a length is one that no vector has. One byte more than the
 // programs read fits the input.
 fn run_next(plans: bool) -> usize
-    ensures { λ r. ⌜ r ≤ 26 ⌝ }
+    ensures { λ r. ⌜ r ≤ 14 ⌝ }
 {
     let mut input = [0u8; 32769];
     let n = read_part(&mut input);
     if 32769 < n {
-        return 26;
+        return 14;
     }
     run_input(plans, &input[0..n])
 }
@@ -192,18 +191,6 @@ fn count(counts: &mut [usize], i: usize)
     }
 }
 
-// Counts the kind of a vector's expected reply, and at 13 whether the reply differed.
-fn record(counts: &mut [usize], result: usize)
-    requires { ⌜ (length (now counts) ≡ 14) × (result ≤ 25) ⌝ }
-{
-    if result < 13 {
-        count(counts, result);
-        return;
-    }
-    count(counts, result - 13);
-    count(counts, 13);
-}
-
 // Runs the vectors up to the input's end or a length that no vector has, and answers how many there were.
 fn run(plans: bool, counts: &mut [usize]) -> usize
     requires { ⌜ length (now counts) ≡ 14 ⌝ }
@@ -211,10 +198,10 @@ fn run(plans: bool, counts: &mut [usize]) -> usize
     let mut cases: usize = 0;
     while cases < 1_000_000 {
         let result = run_next(plans);
-        if 25 < result {
+        if 13 < result {
             return cases;
         }
-        record(counts, result);
+        count(counts, result);
         cases += 1;
     }
     cases
@@ -243,7 +230,7 @@ fn end(text: &[u8], n: usize) {
     say(b"\n");
 }
 
-// The line of how many vectors had replies of the kind.
+// The line of how many vectors had the expected reply and one of the kind.
 fn tell_kind(name: &[u8], kind: usize, many: usize) {
     say(name);
     put_kind(kind);

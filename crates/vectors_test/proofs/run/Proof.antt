@@ -24,8 +24,8 @@ same-length c = search needs
 returns : tie.Need-returns Inv-loop μ-loop
 returns c = search needs
 
-record-requires : tie.Need-record-requires Inv-loop μ-loop
-record-requires c κs = search needs
+count-requires : tie.Need-count-requires Inv-loop μ-loop
+count-requires c κs = search needs
 
 add-cases : tie.Need-add-cases Inv-loop μ-loop
 add-cases c = search needs
@@ -52,7 +52,7 @@ run-spec =
     run-next-requires
     same-length
     returns
-    record-requires
+    count-requires
     add-cases
     loop-less
     loop-again
