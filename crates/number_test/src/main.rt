@@ -30,8 +30,8 @@ fn put_bytes(bytes: &[u8]) {
 
 // Prints the refusal's number and place.
 fn put_refusal(e: Refusal) {
-    put(b" refused ", refusal::number(e));
-    put_next(refusal::place(e));
+    put(b" refused ", refusal_number::number(e));
+    put_next(refusal_place::place(e));
 }
 
 // Prints the value and the next place.
@@ -119,73 +119,64 @@ fn write(room: usize, v: usize)
     write_to(&mut out[0..room], v);
 }
 
-// One group and two.
-fn short_forms() {
-    read(b"\x00", 0);
-    read(b"\x7f", 0);
-    read(b"\x80\x01", 0);
-    read(b"\xac\x02", 0);
-    read(b"\xff\x7f", 0);
+// Readings of one to four bytes.
+fn read_one(a: u8, at: usize) {
+    let bytes = [a];
+    read(&bytes, at);
 }
 
-// Three groups.
-fn long_forms() {
-    read(b"\x80\x80\x01", 0);
-    read(b"\x81\x80\x01", 0);
-    read(b"\xff\xff\x7f", 0);
+fn read_two(a: u8, b: u8, at: usize) {
+    let bytes = [a, b];
+    read(&bytes, at);
 }
 
-// Four groups, and numbers with other bytes around them.
-fn longest_forms() {
-    read(b"\x80\x80\x80\x01", 0);
-    read(b"\xff\xff\xff\x7f", 0);
-    read(b"\xff\xff\xff\x7f\x07", 0);
-    read(b"\x05\xac\x02\x07", 1);
+fn read_three(a: u8, b: u8, c: u8, at: usize) {
+    let bytes = [a, b, c];
+    read(&bytes, at);
+}
+
+fn read_four(a: u8, b: u8, c: u8, d: u8, at: usize) {
+    let bytes = [a, b, c, d];
+    read(&bytes, at);
 }
 
 // Forms of each length, and the largest of each.
 fn forms() {
-    short_forms();
-    long_forms();
-    longest_forms();
-}
-
-// Places past the end of one byte.
-fn past_the_end(bytes: &[u8]) {
-    read(bytes, 1);
-    read(bytes, 2);
-    read(bytes, 18446744073709551615);
-}
-
-// Inputs that end inside a number.
-fn ended() {
-    read(b"", 0);
-    read(b"\x80", 0);
-    read(b"\x80\x80", 0);
+    read_one(0x00, 0);
+    read_one(0x7f, 0);
+    read_two(0x80, 0x01, 0);
+    read_two(0xac, 0x02, 0);
+    read_two(0xff, 0x7f, 0);
+    read_three(0x80, 0x80, 0x01, 0);
+    read_three(0x81, 0x80, 0x01, 0);
+    read_three(0xff, 0xff, 0x7f, 0);
+    read_four(0x80, 0x80, 0x80, 0x01, 0);
+    read_four(0xff, 0xff, 0xff, 0x7f, 0);
+    read(b"\xff\xff\xff\x7f\x07", 0);
+    read_four(0x05, 0xac, 0x02, 0x07, 1);
 }
 
 // Inputs that end inside a number, and places past the end.
 fn cut_short() {
-    ended();
-    read(b"\x80\x80\x80", 0);
-    read(b"\x05\x80", 1);
-    past_the_end(b"\x05");
-}
-
-// Zero last groups.
-fn zero_last() {
-    read(b"\x80\x00", 0);
-    read(b"\x80\x80\x00", 0);
-    read(b"\x80\x80\x80\x00", 0);
-    read(b"\xff\x00", 0);
-    read(b"\x05\x80\x00", 1);
+    read(b"", 0);
+    read_one(0x80, 0);
+    read_two(0x80, 0x80, 0);
+    read_three(0x80, 0x80, 0x80, 0);
+    read_two(0x05, 0x80, 1);
+    read_one(0x05, 1);
+    read_one(0x05, 2);
+    read_one(0x05, 18446744073709551615);
 }
 
 // Four groups all with the top bit, and zero last groups.
 fn malformed() {
-    read(b"\x80\x80\x80\x80", 0);
+    read_four(0x80, 0x80, 0x80, 0x80, 0);
     read(b"\xff\xff\xff\xff\x01", 0);
-    zero_last();
+    read_two(0x80, 0x00, 0);
+    read_three(0x80, 0x80, 0x00, 0);
+    read_four(0x80, 0x80, 0x80, 0x00, 0);
+    read_two(0xff, 0x00, 0);
+    read_three(0x05, 0x80, 0x00, 1);
 }
 
 // Limits of a number at the start, 300.

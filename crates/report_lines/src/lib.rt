@@ -11,8 +11,8 @@ pub fn refused_line(out: &mut [u8], e: Refusal) -> usize
     requires { ⌜ 200 ≤ length (now out) ⌝ }
     ensures { λ r. ⌜ Replied (refusedLine e) r (now (out .entry)) (now (out .exit)) ⌝ }
 {
-    let number = refusal::number(e);
-    let place = refusal::place(e);
+    let number = refusal_number::number(e);
+    let place = refusal_place::place(e);
     let numbers = [number, place];
     report_numbers::line(out, b"refused", &numbers)
 }
