@@ -87,7 +87,9 @@ module _ (input : List ℕ) (p : Placement) (bytes : Bytes input) (e : checkPlac
         b-most = l .b-most;
         inside = omega arith;
         room = rw input-rows (omega (arith, flat-length));
-        ordered = rw (input-rows, rows-taken) (all-imp (Row (p .n) (p .r)) (λ row. T (inOrder (p .n) row)) (λ row h. h .1) (allRows (p .layers)) (good .rows));
+        ordered =
+            rw (input-rows, rows-taken)
+            (all-imp (Row (p .n) (p .r)) (λ row. T (inOrder (p .n) row)) (λ row h. h .1) (allRows (p .layers)) (good .rows));
         line = rw (input-rows, rows-taken, e);
       }
 

@@ -80,8 +80,10 @@ module _ (numbers before after : List ℕ) (at place i : ℕ) (turn : Turn numbe
         → PutDecimal (set after place 32) (place + 1) (getD numbers i 0) next out
         → Turn numbers before out at next (i + 1)
     turn-again next out len (e, f) =
-        let same : sets (set after place 32) (suc place) (decimal (getD numbers i 0) ++ tail) ≡ sets before at (rest numbers) = rw rest-more at (turn .same) in
-        let halves = sets-append (set after place 32) (suc place) (decimal (getD numbers i 0)) tail in
+        let digits = decimal (getD numbers i 0) in
+        let same : sets (set after place 32) (suc place) (digits ++ tail) ≡ sets before at (rest numbers) =
+        rw rest-more at (turn .same) in
+        let halves = sets-append (set after place 32) (suc place) digits tail in
         record {
           passed = omega arith;
           ends = omega (arith, ends-more);

@@ -57,7 +57,10 @@ same-length : tie.Need-same-length
 same-length c = search needs
 
 returns : tie.Need-returns
-returns c = rw (refused-of-check _ _ (c .before .before .before .before .before .before .before .check-placement .ensures) (c .before .before .before .before .before .answer .given .1)) (c .before .before .refused-line .ensures)
+returns c =
+    let p = c .before .before in
+    let m = p .before .before .before in
+    rw (refused-of-check _ _ (m .before .before .check-placement .ensures) (m .answer .given .1)) (p .refused-line .ensures)
 
 same-length-2 : tie.Need-same-length-2
 same-length-2 c = search needs

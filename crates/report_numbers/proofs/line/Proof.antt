@@ -15,8 +15,10 @@ same-length c = search needs
 
 returns : tie.Need-returns
 returns c =
-    let s = c .before .before .before .before .before .before .before .before .before .before .before in
-    line-replied (s .args .word .now) _ _ _ _ _ (s .pre) (c .before .before .before .before .before .before .copy-row .ensures) (c .before .before .put-rest .ensures)
+    let p = c .before .before in
+    let w = p .before .before .before .before in
+    let s = w .before .before .before .before .before in
+    line-replied (s .args .word .now) _ _ _ _ _ (s .pre) (w .copy-row .ensures) (p .put-rest .ensures)
 
 pub line-spec : {M : Type 1} → statement M
 line-spec = tie.close (tie.spec copy-row-requires put-rest-requires same-length returns)
