@@ -8,7 +8,7 @@ use native.Mathlib.Omega.{arith}
 use lib.ListN.{length, getD}
 use lib.Dec.{T, eqb, leb, ltb}
 use borrow.Author.Tests.{leb-true, le-ltb, lt-ltb}
-use Rattle.lists.specs.Lists.{All, count, every, largest, upTo}
+use Rattle.lists.specs.Lists.{All, count, every, upTo}
 use Rattle.lists.proofs.Tests.{T-true, true-T, and-left, and-right, and-both}
 use Rattle.lists.proofs.Alls.{all-of, all-append, all-imp, all-map, all-both, all-every, getD-all}
 use Rattle.lists.proofs.Counts.{count-le-length, count-mono}
@@ -16,6 +16,7 @@ use Rattle.lists.proofs.Largest.{largest-le}
 use Rattle.lists.proofs.Finds.{firstWhere-none, any-none}
 use Rattle.lists.proofs.UpTo.{getD-map-upTo}
 use Rattle.packing.specs.Rows.{ascending, inOrder, rowsAt, member, together, holds, subsets, crowded, firstCrowded}
+use Rattle.packing.specs.Load.{load, most}
 use Rattle.packing.specs.Answers.{rowFound}
 use Rattle.packing.specs.declared.RowFound.the-variants.{At, Nothing}
 use Rattle.packing.proofs.RowsAt.{all-rowsAt}
@@ -90,14 +91,15 @@ module _ (r c : ℕ) (l : List ℕ) (bytes : (i : ℕ) → getD l i 0 < 256) whe
   pub first-none-of-loads : (x bound : ℕ) → T (fewLoads x bound (rowsAt r c l)) → firstCrowded x bound (rowsAt r c l) ≡ none
   first-none-of-loads x bound t =
       none-of-loads x bound (rowsAt r c l)
-      (all-imp (All (λ v. v < 256)) (All (λ v. load v ≤ bound)) (all-imp (λ v. v < 256) (λ v. load v ≤ bound) few)
+      (all-imp (All (λ v. v < 256)) (All (λ v. load (rowsAt r c l) v ≤ bound))
+      (all-imp (λ v. v < 256) (λ v. load (rowsAt r c l) v ≤ bound) few)
       (rowsAt r c l) (all-rowsAt (λ v. v < 256) r c l (getD-all (λ v. v < 256) 0 l (λ i lt. bytes i))))
     where
-      load : (v : ℕ) → ℕ
-      load v = count (λ row. member v row) (rowsAt r c l)
+      fits : most 256 (rowsAt r c l) ≤ bound
+      fits =
+          let m = most 256 (rowsAt r c l) in
+          leb-true m bound (true-T (leb m bound) (and-right (eqb x 0) (leb m bound) t))
 
-      few : (v : ℕ) → v < 256 → load v ≤ bound
+      few : (v : ℕ) → v < 256 → load (rowsAt r c l) v ≤ bound
       few v lt =
-          let most = largest (map load (upTo 256)) in
-          let small = leb-true most bound (true-T (leb most bound) (and-right (eqb x 0) (leb most bound) t)) in
-          omega (arith, largest-le (map load (upTo 256)) v, getD-map-upTo load 256 v 0 lt)
+          omega (arith, fits, largest-le (map (load (rowsAt r c l)) (upTo 256)) v, getD-map-upTo (load (rowsAt r c l)) 256 v 0 lt)

@@ -1,7 +1,7 @@
 -- Ascending rows, node by node; the bytes of the rows alone, and what the code finds in them.
 -- Assumes nothing.
 use Prim.Native.Nat.{ℕ, zero, suc, _+_, _-_, _*_, _/_, _≤_, _<_}
-use mathlib.Core.Path.{_≡_, refl, sym, ap, ap₂, subst, _∙_}
+use mathlib.Core.Path.{_≡_, sym, ap, ap₂, subst, _∙_}
 use mathlib.Core.List.{List, [], _∷_, flatten, append-nil}
 use native.Mathlib.Nat.{div-mul-le-self, div-lt-iff-lt-mul, sub-zero, not-suc-le-zero, le-of-suc-le-suc}
 use native.Mathlib.Omega.{arith}

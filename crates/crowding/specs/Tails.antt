@@ -2,12 +2,12 @@
 -- that hold the nodes chosen so far are the tails. Assumes nothing.
 use Prim.Native.Nat.{ℕ, zero, suc, min}
 use mathlib.Core.Bool.{Bool, cond, _&&_}
-use mathlib.Core.List.{List, [], _∷_, map}
+use mathlib.Core.List.{List, [], _∷_}
 use mathlib.Core.Option.{Option, none, some}
 use lib.ListN.{length}
 use lib.Dec.{leb, ltb, eqb}
-use Rattle.lists.specs.Lists.{count, largest, upTo}
 use Rattle.packing.specs.Rows.{member}
+use Rattle.packing.specs.Load.{most}
 
 -- a row's number, and its nodes above those already chosen
 pub record Tail : Type 0 where
@@ -53,7 +53,7 @@ rowTails i (row ∷ rows) = record { row = i; nodes = row } ∷ rowTails (suc i)
 
 -- sets of one node, where no node stands in more than `bound` of the rows: nothing is crowded
 abbrev pub fewLoads : (x bound : ℕ) (rows : List (List ℕ)) → Bool
-fewLoads x bound rows = eqb x 0 && leb (largest (map (λ node. count (λ row. member node row) rows) (upTo 256))) bound
+fewLoads x bound rows = eqb x 0 && leb (most 256 rows) bound
 
 -- a row's number, and 65,536 where there is none
 abbrev pub rowNumber : Option ℕ → ℕ

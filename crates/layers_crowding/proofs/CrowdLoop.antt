@@ -1,6 +1,6 @@
 -- The packing test layer by layer, each on the part of the bytes that begins at its first row: what each turn of the loop
 -- keeps, and what it answers. Assumes nothing.
-use Prim.Native.Nat.{ℕ, suc, _+_, _*_, _-_, _≤_, _<_}
+use Prim.Native.Nat.{ℕ, suc, _+_, _*_, _≤_, _<_}
 use native.Mathlib.Omega.{arith}
 use native.Mathlib.Numerals.{add-one}
 use native.Mathlib.Nat.{mul-le-mul-right, le-of-lt}

@@ -2,9 +2,10 @@
 use mathlib.Core.Path.{_≡_, refl}
 use mathlib.Core.List.{[], _∷_, _++_}
 use mathlib.Core.Option.{none, some}
-use Rattle.lists.specs.Lists.{count, every, any, firstWhere, upTo}
+use Rattle.lists.specs.Lists.{count, every, any, firstWhere, largest, upTo}
 use Rattle.packing.specs.Rows.{ascending, member, holds, together, subsets, crowded, firstCrowded, firstBad, repeated}
 use Rattle.packing.specs.Failures.{usable}
+use Rattle.packing.specs.Load.{most}
 use Rattle.packing.specs.SevenCabinets.{rows0, rows1, row245}
 
 -- Document 01's layer 1 is a packing of pairs; with its last row 246, row 146 (row 4) shares 4 and 6 with it. In 012 and
@@ -32,6 +33,11 @@ pub survivors-of-two : (usable 2 (rows1 row245) (λ v. member v (4 ∷ 6 ∷ [])
     × (usable 1 (rows1 row245) (λ v. member v (4 ∷ 6 ∷ [])) ≡ 2)
 unfolding count member usable
 survivors-of-two = (refl, refl)
+
+-- each node stands in three rows of layer 1; with 246 in place of 245 node 6 stands in four
+pub loads : (most 7 (rows1 row245) ≡ 3) × (most 7 (rows1 (2 ∷ 4 ∷ 6 ∷ [])) ≡ 4)
+unfolding count largest upTo member
+loads = (refl, refl)
 
 -- nine rows of seven blocks
 pub repeats : repeated (rows1 row245) 9 ≡ rows1 row245 ++ (0 ∷ 1 ∷ 2 ∷ []) ∷ (0 ∷ 3 ∷ 4 ∷ []) ∷ []

@@ -1,4 +1,5 @@
 pub mod Rows
 pub mod Failures
+pub mod Load
 pub mod Answers
 pub mod SevenCabinets

@@ -9,7 +9,7 @@ use lib.ListN.{length}
 use lib.Dec.{lit≤}
 use Rattle.refusal.specs.declared.Refusal.{Refusal}
 use Rattle.refusal.specs.declared.Refusal.the-variants.{Ended, Malformed, WrongKind, OutsideLimits, Trailing, BadRow, Crowded, WrongFigure, NoBlock, ShortWork, ShortOutput, BadOrder}
-use Rattle.refusal.specs.Refusals.{Outcome, result, numberOf}
+use Rattle.refusal.specs.Refusals.{result, numberOf}
 use Rattle.refusal.specs.Checked.{Checked, accepted, refused, outcome, written}
 use Rattle.number.specs.Numbers.{Reading}
 use Rattle.number.specs.Answers.{numberRead, readOutcome, numberWritten, writtenOutcome}

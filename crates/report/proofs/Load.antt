@@ -10,9 +10,9 @@ use Rattle.lists.proofs.Alls.{all-imp, all-flatten, every-all}
 use Rattle.lists.proofs.UpTo.{map-upTo-congr}
 use Rattle.lists.proofs.Totals.{total-count-eqb}
 use Rattle.packing.specs.Rows.{ascending, inOrder, Row}
+use Rattle.packing.specs.Load.{load}
 use Rattle.rows.proofs.Load.{count-of-rows}
 use Rattle.layers.proofs.Lengths.{length-flatten-rows}
-use Rattle.report.specs.Load.{load}
 
 row-below : (n r : ℕ) (row : List ℕ) → Row n r row → All (λ v. v < n) row
 row-below n r row h =
@@ -21,7 +21,6 @@ row-below n r row h =
 
 pub total-load : (n r : ℕ) (rows : List (List ℕ)) → All (Row n r) rows
     → total (map (load rows) (upTo n)) ≡ length rows * r
-unfolding load
 total-load n r rows h =
     let ordered = all-imp (Row n r) (λ row. T (inOrder n row)) (λ row g. g .1) rows h in
     let lengths = all-imp (Row n r) (λ row. length row ≡ r) (λ row g. g .0) rows h in

@@ -14,14 +14,14 @@ use Rattle.placement.specs.SevenCabinets.{placementFile, sevenPlacement}
 use Rattle.placement.proofs.Worked.{placements}
 use Rattle.planner.specs.Planning.{planned}
 use Rattle.planner.proofs.Worked.{orders}
-use Rattle.report.specs.Load.{load, most, mean}
+use Rattle.report.specs.Load.{mean}
 use Rattle.report.specs.Programs.{digits, decimal, rest, acceptedWord, acceptedLine, orRefusedLine, checkLine, readOrder, planInput, planReply}
 use Rattle.report.specs.Replies.{planSlices, checkInto, planInto}
 
 -- "`check` prints `accepted 5 9 3 7 4 4`"; `plan` with the numbers 2 3 9 and then P writes the whole file
 pub lines : (checkLine (placementFile 5) ≡ acceptedWord ++ (32 ∷ 53 ∷ 32 ∷ 57 ∷ 32 ∷ 51 ∷ 32 ∷ 55 ∷ 32 ∷ 52 ∷ 32 ∷ 52 ∷ 10 ∷ []))
     × (planReply (2 ∷ 3 ∷ 9 ∷ packBytes row245) ≡ placementFile 5)
-unfolding count largest upTo flatten member readGroups readNumber packBytes sevenPlacement planned load most mean digits decimal rest acceptedLine checkLine readOrder planInput planReply
+unfolding count largest upTo flatten member readGroups readNumber packBytes sevenPlacement planned mean digits decimal rest acceptedLine checkLine readOrder planInput planReply
 lines = (
   ap (λ a. orRefusedLine (mapAccepted acceptedLine a)) (placements .1),
   ap (λ a. orRefusedLine (mapAccepted placementBytes a)) (orders .8) ∙ orders .9,

@@ -12,7 +12,8 @@ use Rattle.number.specs.Numbers.{Reading, readNumber}
 use Rattle.layers.specs.Layers.{allRows}
 use Rattle.placement.specs.Placement.{Placement, checkPlacement, placementBytes}
 use Rattle.planner.specs.Planning.{planned}
-use Rattle.report.specs.Load.{most, mean}
+use Rattle.packing.specs.Load.{most}
+use Rattle.report.specs.Load.{mean}
 
 -- n in decimal ASCII digits, at most `more` of them before the last
 unfoldable pub digits : (more n : ℕ) → List ℕ

@@ -1,17 +1,17 @@
 -- The line of `check`, from the answer of the placement's check. Assumes nothing.
-use Prim.Native.Nat.{ℕ, _+_, _*_, _-_, _≤_, _<_}
+use Prim.Native.Nat.{ℕ, _+_, _*_, _-_, _≤_}
 use native.Mathlib.Omega.{arith}
 use mathlib.Core.Path.{_≡_, refl, sym, _∙_, ap}
-use mathlib.Core.List.{List, [], _∷_, _++_, map, flatten, append-nil}
+use mathlib.Core.List.{List, [], _∷_, _++_, flatten, append-nil}
 use lib.ListN.{length, take, drop, length-append}
 use lib.Seq.{drop-at}
 use lib.Dec.{T}
-use Rattle.lists.specs.Lists.{All, count, largest, upTo}
+use Rattle.lists.specs.Lists.{All}
 use Rattle.lists.proofs.Alls.{all-imp}
 use Rattle.refusal.specs.declared.Refusal.{Refusal}
 use Rattle.refusal.specs.Checked.{Checked, accepted, refused}
 use Rattle.number.specs.Numbers.{Bytes}
-use Rattle.packing.specs.Rows.{Row, inOrder, rowsAt, member}
+use Rattle.packing.specs.Rows.{Row, inOrder, rowsAt}
 use Rattle.lists.proofs.Writing.{take-drop-rest}
 use Rattle.layers.specs.Layers.{allRows}
 use Rattle.layers.proofs.Lengths.{length-flatten-rows, length-allRows}
@@ -21,7 +21,8 @@ use Rattle.placement.specs.Answers.{placementChecked}
 use Rattle.placement.specs.declared.PlacementAnswer.the-variants.{Accepted, Refused}
 use Rattle.placement.specs.declared.PlacementCheck.{PlacementCheck}
 use Rattle.placement.proofs.Accepted.{placement-accepted-iff}
-use Rattle.report.specs.Load.{load, most, mean}
+use Rattle.packing.specs.Load.{most}
+use Rattle.report.specs.Load.{mean}
 use Rattle.report.specs.Programs.{rest, acceptedWord, acceptedLine, refusedLine, checkLine}
 
 -- the last m elements
@@ -34,10 +35,6 @@ drop-last h t l m e len =
 abbrev pub rowsPart : (input : List ℕ) (at : ℕ) → List ℕ
 rowsPart input at = take (length input - at) (drop at input)
 
--- the most load, as the code's pass over the bytes states it
-abbrev mostOf : (n : ℕ) (rows : List (List ℕ)) → ℕ
-mostOf n rows = largest (map (λ node. count (λ row. member node row) rows) (upTo n))
-
 -- An accepted input's rows start at `at` and are all in order, and its line has these numbers.
 pub record LineOf (input : List ℕ) (n r k b figure at : ℕ) : Type 0 where
   pub n-least : 1 ≤ n
@@ -48,7 +45,7 @@ pub record LineOf (input : List ℕ) (n r k b figure at : ℕ) : Type 0 where
   pub room : b * r ≤ length (rowsPart input at)
   pub ordered : All (λ row. T (inOrder n row)) (rowsAt r b (rowsPart input at))
   pub line : checkLine input
-      ≡ acceptedWord ++ rest (figure ∷ b ∷ k ∷ n ∷ mostOf n (rowsAt r b (rowsPart input at)) ∷ mean b r n ∷ [])
+      ≡ acceptedWord ++ rest (figure ∷ b ∷ k ∷ n ∷ most n (rowsAt r b (rowsPart input at)) ∷ mean b r n ∷ [])
 
 module _ (input : List ℕ) (p : Placement) (bytes : Bytes input) (e : checkPlacement input ≡ accepted p) where
   good : GoodPlacement p
@@ -77,7 +74,7 @@ module _ (input : List ℕ) (p : Placement) (bytes : Bytes input) (e : checkPlac
       rw (← records, ← append-nil flat) (rowsAt-flatten (p .r) (allRows (p .layers)) [] lengths)
 
   pub line-of-accepted : LineOf input (p .n) (p .r) (p .k) (p .b) (p .figure) (length input - p .b * p .r)
-  unfolding checkLine acceptedLine load most
+  unfolding checkLine acceptedLine
   line-of-accepted =
       let l = good .limits in
       record {

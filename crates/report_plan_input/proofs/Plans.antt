@@ -1,5 +1,5 @@
 -- What `plan` writes, from the answer of planning. Assumes nothing.
-use Prim.Native.Nat.{ℕ, suc, _*_, _≤_, _<_, suc-le-suc}
+use Prim.Native.Nat.{ℕ, suc, _*_, _≤_, suc-le-suc}
 use native.Mathlib.Omega.{arith}
 use native.Mathlib.Nat.{mul-le-mul}
 use mathlib.Core.Path.{_≡_, refl, sym, ap}

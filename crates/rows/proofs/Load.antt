@@ -5,16 +5,17 @@ use native.Mathlib.Numerals.{add-one}
 use native.Mathlib.Omega.{arith}
 use mathlib.Core.Path.{_≡_, refl, ap, _∙_}
 use mathlib.Core.Bool.{Bool, true, false}
-use mathlib.Core.List.{List, [], _∷_, map, flatten}
+use mathlib.Core.List.{List, [], _∷_, flatten}
 use lib.Dec.{T, leb, ltb, eqb, leb→le}
 use lib.ListN.{length, getD, take, drop, set, replicate, getD-replicate, length-take}
 use lib.Seq.{take-suc, getD-set-same, getD-set-other}
 use borrow.Author.Tests.{eqb-true, eqb-false, ne-eqb}
-use Rattle.lists.specs.Lists.{All, tally, count, every, largest, upTo}
+use Rattle.lists.specs.Lists.{All, tally, count, every, largest}
 use Rattle.lists.proofs.Tests.{and-left, and-right}
 use Rattle.lists.proofs.Counts.{tally-add, count-append, count-le-length}
 use Rattle.lists.proofs.UpTo.{take-map-upTo}
 use Rattle.packing.specs.Rows.{ascending, inOrder, rowsAt, member}
+use Rattle.packing.specs.Load.{load, most}
 use Rattle.packing.proofs.RowsAt.{flatten-rowsAt}
 
 -- a node below all of an ascending row is not in it
@@ -86,10 +87,10 @@ counts-le counts bytes i cs v lt =
 pub most-of-counts : (rows : List ℕ) (c r n : ℕ) (counts : List ℕ) → n ≤ 256 → n ≤ length counts
     → All (λ row. T (inOrder n row)) (rowsAt r c rows) → Counts counts (take (c * r - 0) (drop 0 rows))
     → largest (take (n - 0) (drop 0 counts))
-    ≡ largest (map (λ node. count (λ row. member node row) (rowsAt r c rows)) (upTo n))
+    ≡ most n (rowsAt r c rows)
 most-of-counts rows c r n counts small fits order cs =
     rw (sub-zero n)
     (ap largest
-    (take-map-upTo (λ node. count (λ row. member node row) (rowsAt r c rows)) counts 0 n fits
+    (take-map-upTo (load (rowsAt r c rows)) counts 0 n fits
     (λ i lt. (rw (sub-zero (c * r), ← flatten-rowsAt r c rows) at (cs i (omega arith)))
     ∙ count-of-rows n i (rowsAt r c rows) order)))

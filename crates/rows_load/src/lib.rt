@@ -1,11 +1,11 @@
 // How many rows hold a node.
 ghost use mathlib.Core.Path.{_≡_};
 ghost use Prim.Native.Nat.{ℕ, _*_, _≤_, _<_};
-ghost use mathlib.Core.List.{map};
 ghost use lib.ListN.{length, getD};
 ghost use lib.Dec.{T, eqb};
-ghost use Rattle.lists.specs.Lists.{All, count, largest, upTo};
-ghost use Rattle.packing.specs.Rows.{inOrder, rowsAt, member};
+ghost use Rattle.lists.specs.Lists.{All, count, largest};
+ghost use Rattle.packing.specs.Rows.{inOrder, rowsAt};
+ghost use Rattle.packing.specs.Load.{most};
 
 // How many of the bytes are 0, how many are 1, and so on.
 fn byte_counts(bytes: &[u8]) -> [usize; 256]
@@ -25,7 +25,7 @@ fn byte_counts(bytes: &[u8]) -> [usize; 256]
 
 // The largest of the counts, 0 where there is none.
 fn largest_count(counts: &[usize]) -> usize
-    ensures { λ most. ⌜ most ≡ largest (now (counts .entry)) ⌝ }
+    ensures { λ answer. ⌜ answer ≡ largest (now (counts .entry)) ⌝ }
 {
     let mut most: usize = 0;
     let mut looked: usize = 0;
@@ -41,9 +41,7 @@ pub fn most_load(rows: &[u8], c: usize, r: usize, n: usize) -> usize
     requires { ⌜ c * r ≤ length (now rows) ⌝ }
     requires { ⌜ n ≤ 256 ⌝ }
     requires { ⌜ All (λ row. T (inOrder n row)) (rowsAt r c (now rows)) ⌝ }
-    ensures { λ most.
-        ⌜ most
-        ≡ largest (map (λ node. count (λ row. member node row) (rowsAt r c (now (rows .entry)))) (upTo n)) ⌝ }
+    ensures { λ answer. ⌜ answer ≡ most n (rowsAt r c (now (rows .entry))) ⌝ }
 {
     let total = c * r;
     let counts = byte_counts(&rows[0..total]);
