@@ -25,11 +25,11 @@ fn least_size(full: bool, after: usize, room: usize) -> usize
 fn read_layer(bytes: &[u8], at: usize, lo: usize, hi: usize, least: usize, room: usize) -> LayerRead
     ensures { λ r. ⌜ r ≡ layerRead (readLayer lo hi least room (now (bytes .entry)) at) ⌝ }
 {
-    let first = number_reader::read_within(bytes, at, lo, hi);
+    let first = number_within::read_within(bytes, at, lo, hi);
     let NumberRead::Value(bound, middle) = first else {
         return LayerRead::Refused(layers_kind::refusal_of(first));
     };
-    let second = number_reader::read_within(bytes, middle, least, room);
+    let second = number_within::read_within(bytes, middle, least, room);
     let NumberRead::Value(size, next) = second else {
         return LayerRead::Refused(layers_kind::refusal_of(second));
     };

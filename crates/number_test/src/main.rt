@@ -87,7 +87,7 @@ fn put_limits(lo: usize, hi: usize) {
 fn within(bytes: &[u8], at: usize, lo: usize, hi: usize) {
     put_limits(lo, hi);
     say(b" read");
-    tell_read(bytes, at, number_reader::read_within(bytes, at, lo, hi));
+    tell_read(bytes, at, number_within::read_within(bytes, at, lo, hi));
 }
 
 // The start of a writing's line.

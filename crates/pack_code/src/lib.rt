@@ -49,7 +49,7 @@ fn after_r(bytes: &[u8], n: usize, r: usize, at: usize) -> PackCheck
 fn after_n(bytes: &[u8], n: usize, at: usize) -> PackCheck
     ensures { λ check. ⌜ check ≡ packChecked (now (bytes .entry)) (afterN (now (bytes .entry)) n at) ⌝ }
 {
-    let read = number_reader::read_within(bytes, at, 2, minmax::smaller(5, n));
+    let read = number_within::read_within(bytes, at, 2, minmax::smaller(5, n));
     let NumberRead::Value(r, next) = read else {
         return refuse(layers_kind::refusal_of(read));
     };
@@ -60,7 +60,7 @@ fn after_n(bytes: &[u8], n: usize, at: usize) -> PackCheck
 fn after_kind(bytes: &[u8], at: usize) -> PackCheck
     ensures { λ check. ⌜ check ≡ packChecked (now (bytes .entry)) (afterKind (now (bytes .entry)) at) ⌝ }
 {
-    let read = number_reader::read_within(bytes, at, 2, 255);
+    let read = number_within::read_within(bytes, at, 2, 255);
     let NumberRead::Value(n, next) = read else {
         return refuse(layers_kind::refusal_of(read));
     };

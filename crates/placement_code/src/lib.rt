@@ -12,7 +12,7 @@ fn after_n(bytes: &[u8], n: usize, at: usize) -> PlacementCheck
     requires { ⌜ (2 ≤ n) × (n ≤ 255) ⌝ }
     ensures { λ check. ⌜ check ≡ placementChecked (now (bytes .entry)) (afterN (now (bytes .entry)) n at) ⌝ }
 {
-    let read = number_reader::read_within(bytes, at, 2, minmax::smaller(5, n));
+    let read = number_within::read_within(bytes, at, 2, minmax::smaller(5, n));
     let NumberRead::Value(r, next) = read else {
         return placement_refusal::refuse(layers_kind::refusal_of(read));
     };
@@ -23,7 +23,7 @@ fn after_n(bytes: &[u8], n: usize, at: usize) -> PlacementCheck
 fn after_kind(bytes: &[u8], at: usize) -> PlacementCheck
     ensures { λ check. ⌜ check ≡ placementChecked (now (bytes .entry)) (afterKind (now (bytes .entry)) at) ⌝ }
 {
-    let read = number_reader::read_within(bytes, at, 2, 255);
+    let read = number_within::read_within(bytes, at, 2, 255);
     let NumberRead::Value(n, next) = read else {
         return placement_refusal::refuse(layers_kind::refusal_of(read));
     };

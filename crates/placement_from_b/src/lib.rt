@@ -21,7 +21,7 @@ fn after_b(
     ensures { λ check. ⌜ check
         ≡ placementChecked (now (bytes .entry)) (afterB (now (bytes .entry)) n r s k b at) ⌝ }
 {
-    let read = number_reader::read_within(bytes, at, 0, b);
+    let read = number_within::read_within(bytes, at, 0, b);
     let NumberRead::Value(figure, next) = read else {
         return placement_refusal::refuse(layers_kind::refusal_of(read));
     };
@@ -43,7 +43,7 @@ pub fn after_k(bytes: &[u8], n: usize, r: usize, s: usize, k: usize, at: usize) 
     ensures { λ check. ⌜ check
         ≡ placementChecked (now (bytes .entry)) (afterK (now (bytes .entry)) n r s k at) ⌝ }
 {
-    let read = number_reader::read_within(bytes, at, 1, 4_096);
+    let read = number_within::read_within(bytes, at, 1, 4_096);
     let NumberRead::Value(b, next) = read else {
         return placement_refusal::refuse(layers_kind::refusal_of(read));
     };

@@ -12,7 +12,7 @@ fn after_s(bytes: &[u8], n: usize, r: usize, s: usize, at: usize) -> PlacementCh
     ensures { λ check. ⌜ check
         ≡ placementChecked (now (bytes .entry)) (afterS (now (bytes .entry)) n r s at) ⌝ }
 {
-    let read = number_reader::read_within(bytes, at, s, n - 1);
+    let read = number_within::read_within(bytes, at, s, n - 1);
     let NumberRead::Value(k, next) = read else {
         return placement_refusal::refuse(layers_kind::refusal_of(read));
     };
@@ -24,7 +24,7 @@ pub fn after_r(bytes: &[u8], n: usize, r: usize, at: usize) -> PlacementCheck
     requires { ⌜ (r ≤ 5) × (2 ≤ n) × (n ≤ 255) ⌝ }
     ensures { λ check. ⌜ check ≡ placementChecked (now (bytes .entry)) (afterR (now (bytes .entry)) n r at) ⌝ }
 {
-    let read = number_reader::read_within(bytes, at, 1, r);
+    let read = number_within::read_within(bytes, at, 1, r);
     let NumberRead::Value(s, next) = read else {
         return placement_refusal::refuse(layers_kind::refusal_of(read));
     };

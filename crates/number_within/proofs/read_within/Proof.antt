@@ -1,10 +1,10 @@
--- `number_reader::read_within` meets its contract: each return is a case of `readWithin`, over what `read_number` ensures of its
+-- `number_within::read_within` meets its contract: each return is a case of `readWithin`, over what `read_number` ensures of its
 -- answer. Assumes nothing.
 use native.Mathlib.Omega.{arith}
 use borrow.Author.Needs.{needs}
 use Rattle.number.proofs.Within.{answer-refused, answer-below, answer-above, answer-within}
-use Rattle.number_reader.proofs.read_within.Statement.{statement}
-use Rattle.number_reader.proofs.read_within.Tie as tie
+use Rattle.number_within.proofs.read_within.Statement.{statement}
+use Rattle.number_within.proofs.read_within.Tie as tie
 
 read-number-requires : tie.Need-read-number-requires
 read-number-requires c κs = search needs
