@@ -1,1 +1,1 @@
-// Laws of the packing test by growing sets; the code is in crowding_code.
+// Laws of the packing test by growing sets; the code is in the crates crowding_*.
