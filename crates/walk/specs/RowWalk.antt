@@ -9,8 +9,6 @@ use denote.Ref.{RefT, ptr, now}
 use Rattle.refusal.specs.Refusals.{Outcome, result, refusalOutcome}
 use Rattle.refusal.specs.Checked.{Checked, accepted, refused, mapAccepted}
 use Rattle.placement.specs.Placement.{Placement, checkPlacement}
-use Rattle.placement.specs.declared.PlacementAnswer.{PlacementAnswer}
-use Rattle.placement.specs.declared.PlacementAnswer.the-variants.{Accepted, Refused as CheckRefused}
 use Rattle.walk.specs.declared.Cursor.{Cursor}
 use Rattle.walk.specs.declared.WalkOpened.{WalkOpened}
 use Rattle.walk.specs.declared.WalkOpened.the-variants.{Opened, Refused}
@@ -58,11 +56,6 @@ walkAfter (suc n) bytes walk = walkAfter n bytes (stepWalk bytes walk)
 abbrev pub walkOpened : Checked Cursor → WalkOpened
 walkOpened (accepted walk) = Opened walk
 walkOpened (refused e) = Refused e
-
--- the checker's answer as that of opening: an accepted placement's first row, or "refusals as in checking"
-abbrev pub openedOf : PlacementAnswer → WalkOpened
-openedOf (Accepted n r s k b figure at) = Opened (record { at = at; r = r; left = b })
-openedOf (CheckRefused e) = Refused e
 
 -- where the walk is then: beside a refusal it is at its end
 abbrev pub openedPlace : WalkOpened → Cursor

@@ -7,7 +7,15 @@ use Rattle.placement.specs.Placement.{Placement, checkPlacement}
 use Rattle.placement.specs.Answers.{placementChecked}
 use Rattle.placement.specs.declared.PlacementAnswer.{PlacementAnswer}
 use Rattle.placement.specs.declared.PlacementCheck.{PlacementCheck}
-use Rattle.walk.specs.RowWalk.{firstRow, openWalk, walkOpened, openedOf}
+use Rattle.placement.specs.declared.PlacementAnswer.the-variants.{Accepted, Refused as CheckRefused}
+use Rattle.walk.specs.declared.WalkOpened.{WalkOpened}
+use Rattle.walk.specs.declared.WalkOpened.the-variants.{Opened, Refused}
+use Rattle.walk.specs.RowWalk.{firstRow, openWalk, walkOpened}
+
+-- the checker's answer as that of opening: an accepted placement's first row, or the checker's refusal
+abbrev openedOf : PlacementAnswer → WalkOpened
+openedOf (Accepted n r s k b figure at) = Opened (record { at = at; r = r; left = b })
+openedOf (CheckRefused e) = Refused e
 
 answer-opened : (bytes : List ℕ) (checked : Checked Placement)
     → openedOf (placementChecked bytes checked .answer) ≡ walkOpened (mapAccepted (firstRow bytes) checked)
