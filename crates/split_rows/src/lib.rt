@@ -26,7 +26,8 @@ fn raise_by_records(work: &mut [u16], at: usize, w: usize, each: usize)
     }
 }
 
-// The same where a record or a copy is paid for, whichever costs less. A copy that costs the mark, or all the records that it holds, is of no use.
+// The same where a record or a copy is paid for, whichever costs less. A copy that costs the mark, or all the records that
+// it holds, is of no use.
 pub fn raise_row(work: &mut [u16], at: usize, w: usize, u: Steps)
     requires { ⌜ StepLimits u × (w ≤ 4097) × (w ≤ at) × (at + w ≤ length (now work)) ⌝ }
     requires { ⌜ Rising (part (at - w) w (now work)) ⌝ }
