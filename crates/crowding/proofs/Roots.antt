@@ -33,6 +33,10 @@ tails-from-next rows r c i start lt =
     let e : c - i ≡ suc (c - (i + 1)) = omega arith in
     rw (e, add-one i, ← drop-drop r start rows)
 
+-- row i of c is whole
+pub row-whole : (r c : ℕ) (rows : List ℕ) (i : ℕ) → length rows ≡ c * r → i < c → (i + 1) * r ≤ length rows
+row-whole r c rows i all lt = omega (arith, mul-le-mul-right {m = i + 1} {n = c} r (omega arith))
+
 module _ (r w c : ℕ) (rows : List ℕ) where
   pub root-start : (heads counts next : List ℕ) → AtMost 0 counts
       → Root r w c rows (λ u. tailsAfter w u (rowTails 0 (rowsAt r c rows)) []) heads counts next 0 0
@@ -51,8 +55,8 @@ module _ (r w c : ℕ) (rows : List ℕ) where
 
   module _ (pos : 0 < r) (order : Ascends r rows) (all : length rows ≡ c * r) (i start : ℕ) (lt : i < c) (at : start ≡ i * r)
       (goal : ℕ → List Tail) (heads counts next : List ℕ) (root : Root r w c rows goal heads counts next i start) where
-    pub row-whole : (i + 1) * r ≤ length rows
-    row-whole = omega (arith, mul-le-mul-right {m = i + 1} {n = c} r (omega arith))
+    whole : (i + 1) * r ≤ length rows
+    whole = row-whole r c rows i all lt
 
     pub root-fresh : Fresh start (start + r - w) heads counts next
     root-fresh u =
@@ -73,12 +77,12 @@ module _ (r w c : ℕ) (rows : List ℕ) where
       either : (P : List ℕ → Type 0) (u : ℕ) → P (chain heads counts next u)
           → ((q : ℕ) → start ≤ q → q < (i + 1) * r → getD rows q 0 ≡ u → P (q ∷ chain heads counts next u))
           → P (chain heads′ counts′ next′ u)
-      either = chain-elim rows r w i start row-whole order after within heads counts next heads′ counts′ next′ link-row
+      either = chain-elim rows r w i start whole order after within heads counts next heads′ counts′ next′ link-row
 
       -- a position before the row is in another row
       earlier : (q s : ℕ) → start ≤ q → q < (i + 1) * r → s < start → s / r ≡ q / r → ⊥
       earlier q s le lt before e =
-          let row = in-row rows r i row-whole order q (omega arith) lt in
+          let row = in-row rows r i whole order q (omega arith) lt in
           let less : s / r < i = div-lt-iff-lt-mul {k = r} {x = s} {y = i} pos .1 (omega arith) in
           omega arith
 
@@ -95,14 +99,14 @@ module _ (r w c : ℕ) (rows : List ℕ) where
       unfolding tailsAfter
       root-next = (
         λ u. (
-          chain-placed rows r w i start row-whole order after within heads counts next heads′ counts′ next′ link-row u (root .0 u .0),
+          chain-placed rows r w i start whole order after within heads counts next heads′ counts′ next′ link-row u (root .0 u .0),
           either (Apart r) u (root .0 u .1)
               (λ q le lt e.
               (all-imp (λ s. s < start) (λ s. s / r ≡ q / r → ⊥) (λ s. earlier q s le lt) (chain heads counts next u) (root .1 u), root .0 u .1)),
         ),
         λ u. either (All (λ q. q < start + r)) u (on u) (λ q le lt e. (omega arith, on u)),
         λ u. ap (tailsAfter w u (tailsFrom rows r c (i + 1) (start + r)))
-            (chain-tails rows r w i start row-whole order after within heads counts next heads′ counts′ next′ link-row u ∙ same u)
+            (chain-tails rows r w i start whole order after within heads counts next heads′ counts′ next′ link-row u ∙ same u)
             ∙ ap (λ (ts : List Tail). tailsAfter w u ts (tailsAt r rows (chain heads counts next u))) (sym (tails-from-next rows r c i start lt))
             ∙ root .2 u,
       )

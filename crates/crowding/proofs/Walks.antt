@@ -9,7 +9,7 @@ use Rattle.lists.specs.Lists.{All}
 use Rattle.lists.proofs.Alls.{all-imp, all-append, all-append-left, all-append-right}
 use Rattle.crowding.specs.Tails.{Tail, tailsAfter}
 use Rattle.crowding.specs.Chains.{rowEnd, tailsAt, follow, chain, Outside, Apart, Placed, Ascends, AtMost, EmptyBelow, Fresh, AllChained, KeptOutside, KeptTo, Linked}
-use Rattle.crowding.proofs.Follow.{length-follow, follow-next, follow-kept, chain-empty}
+use Rattle.crowding.proofs.Follow.{length-follow, follow-next, all-follow, follow-kept, chain-empty}
 use Rattle.crowding.proofs.Rows.{in-row, row-end, linked-elim, tails-linked, nodesFrom, step}
 
 -- no two in one row: without a position of the middle, and with it in front
@@ -39,6 +39,20 @@ module _ (r p : ℕ) (pos : 0 < r) where
 
   pub before-end : p < rowEnd r p
   before-end = omega (arith, lt-div-mul-add {a = p} pos)
+
+-- a position that stands in a whole row
+abbrev pub InRow : (r : ℕ) (rows : List ℕ) (p : ℕ) → Type 0
+InRow r rows p = (rowEnd r p ≤ length rows) × (p / r * r ≤ p) × (p < rowEnd r p)
+
+-- the next position of a chain
+module _ (r : ℕ) (rows : List ℕ) (n : ℕ) (next : List ℕ) (p : ℕ) (pos : 0 < r) (some : 0 < n) where
+  pub whole-in-row : All (λ q. rowEnd r q ≤ length rows) (follow n next p) → InRow r rows p
+  whole-in-row h =
+      (all-follow (λ q. rowEnd r q ≤ length rows) n next p some h .0, row-start r p pos, before-end r p pos)
+
+  pub placed-in-row : (v : ℕ) → All (Placed r rows v) (follow n next p) → InRow r rows p
+  placed-in-row v h =
+      (all-follow (Placed r rows v) n next p some h .0 .0, row-start r p pos, before-end r p pos)
 
 -- a chain whose nodes keep their entries stays
 pub follow-kept-to : (rows : List ℕ) (v m n : ℕ) (next last : List ℕ) (p r : ℕ) → v ≤ m → KeptTo m rows next last

@@ -11,7 +11,7 @@ use Rattle.crowding.specs.Tails.{tailsAfter}
 use Rattle.crowding.specs.Chains.{rowEnd, tailsAt, follow, AtMost}
 use Rattle.crowding.proofs.Follow.{all-follow}
 use Rattle.crowding.proofs.Hits.{hits-le, chain-hits, chain-end, largest-counts}
-use Rattle.crowding.proofs.Walks.{row-start, before-end}
+use Rattle.crowding.proofs.Walks.{whole-in-row}
 use native.Mathlib.Omega.{arith}
 use borrow.Author.Needs.{needs}
 use Rattle.crowding_counting.proofs.count_tails.Statement.{statement}
@@ -44,10 +44,8 @@ add-count-nodes c =
     let l = c .before .loop in
     let g = c .before .before .before .before .before .args in
     let pre = c .before .before .before .before .before .pre in
-    let here = all-follow (λ q. rowEnd (g .r) q ≤ length (g .rows .now)) (l .n) (g .next .now) (l .p) (c .loop-test .taken) (l .inv .4) in
-    let start = row-start (g .r) (l .p) (pre .0 .0) in
-    let end = before-end (g .r) (l .p) (pre .0 .0) in
-    omega (arith, here .0, end)
+    let row = whole-in-row (g .r) (g .rows .now) (l .n) (g .next .now) (l .p) (pre .0 .0) (c .loop-test .taken) (l .inv .4) in
+    omega (arith, row)
 
 div-count-nodes : tie.Need-div-count-nodes Inv-loop μ-loop
 div-count-nodes c = search needs
@@ -57,31 +55,25 @@ add-count-nodes-2 c =
     let l = c .before .loop in
     let g = c .before .before .before .before .before .args in
     let pre = c .before .before .before .before .before .pre in
-    let here = all-follow (λ q. rowEnd (g .r) q ≤ length (g .rows .now)) (l .n) (g .next .now) (l .p) (c .loop-test .taken) (l .inv .4) in
-    let start = row-start (g .r) (l .p) (pre .0 .0) in
-    let end = before-end (g .r) (l .p) (pre .0 .0) in
-    omega (arith, div-le-self (l .p) (g .r), here .0, end)
+    let row = whole-in-row (g .r) (g .rows .now) (l .n) (g .next .now) (l .p) (pre .0 .0) (c .loop-test .taken) (l .inv .4) in
+    omega (arith, row, div-le-self (l .p) (g .r))
 
 mul-count-nodes : tie.Need-mul-count-nodes Inv-loop μ-loop
 mul-count-nodes c =
     let l = c .before .loop in
     let g = c .before .before .before .before .before .args in
     let pre = c .before .before .before .before .before .pre in
-    let here = all-follow (λ q. rowEnd (g .r) q ≤ length (g .rows .now)) (l .n) (g .next .now) (l .p) (c .loop-test .taken) (l .inv .4) in
-    let start = row-start (g .r) (l .p) (pre .0 .0) in
-    let end = before-end (g .r) (l .p) (pre .0 .0) in
-    omega (arith, here .0)
+    let row = whole-in-row (g .r) (g .rows .now) (l .n) (g .next .now) (l .p) (pre .0 .0) (c .loop-test .taken) (l .inv .4) in
+    omega (arith, row)
 
 count-nodes-requires : tie.Need-count-nodes-requires Inv-loop μ-loop
 count-nodes-requires c κs =
     let l = c .before .before .loop in
     let g = c .before .before .before .before .before .before .args in
     let pre = c .before .before .before .before .before .before .pre in
-    let here = all-follow (λ q. rowEnd (g .r) q ≤ length (g .rows .now)) (l .n) (g .next .now) (l .p) (c .before .loop-test .taken) (l .inv .4) in
-    let start = row-start (g .r) (l .p) (pre .0 .0) in
-    let end = before-end (g .r) (l .p) (pre .0 .0) in (
-      (here .0, l .inv .1),
-      (omega (arith, start, pre .0), λ v. omega (arith, l .inv .2 v, start, pre .0), l .inv .3),
+    let row = whole-in-row (g .r) (g .rows .now) (l .n) (g .next .now) (l .p) (pre .0 .0) (c .before .loop-test .taken) (l .inv .4) in (
+      (row .0, l .inv .1),
+      (omega (arith, row, pre .0), λ v. omega (arith, l .inv .2 v, row, pre .0), l .inv .3),
     )
 
 mul-p : tie.Need-mul-p Inv-loop μ-loop
@@ -89,22 +81,18 @@ mul-p c =
     let l = c .before .before .before .before .before .loop in
     let g = c .before .before .before .before .before .before .before .before .before .args in
     let pre = c .before .before .before .before .before .before .before .before .before .pre in
-    let here = all-follow (λ q. rowEnd (g .r) q ≤ length (g .rows .now)) (l .n) (g .next .now) (l .p)
+    let row = whole-in-row (g .r) (g .rows .now) (l .n) (g .next .now) (l .p) (pre .0 .0)
     (c .before .before .before .before .loop-test .taken) (l .inv .4) in
-    let start = row-start (g .r) (l .p) (pre .0 .0) in
-    let end = before-end (g .r) (l .p) (pre .0 .0) in
-    omega (arith, here .0, end)
+    omega (arith, row)
 
 shared-slice-read-p : tie.Need-shared-slice-read-p Inv-loop μ-loop
 shared-slice-read-p c =
     let l = c .before .before .before .before .before .before .loop in
     let g = c .before .before .before .before .before .before .before .before .before .before .args in
     let pre = c .before .before .before .before .before .before .before .before .before .before .pre in
-    let here = all-follow (λ q. rowEnd (g .r) q ≤ length (g .rows .now)) (l .n) (g .next .now) (l .p)
+    let row = whole-in-row (g .r) (g .rows .now) (l .n) (g .next .now) (l .p) (pre .0 .0)
     (c .before .before .before .before .before .loop-test .taken) (l .inv .4) in
-    let start = row-start (g .r) (l .p) (pre .0 .0) in
-    let end = before-end (g .r) (l .p) (pre .0 .0) in
-    omega (arith, here .0, end, pre .0)
+    omega (arith, row, pre .0)
 
 cast-p : tie.Need-cast-p Inv-loop μ-loop
 cast-p c =
@@ -121,22 +109,21 @@ loop-again c =
     let l = c .before .before .before .before .before .before .loop in
     let g = c .before .before .before .before .before .before .before .before .before .before .args in
     let pre = c .before .before .before .before .before .before .before .before .before .before .pre in
-    let here = all-follow (λ q. rowEnd (g .r) q ≤ length (g .rows .now)) (l .n) (g .next .now) (l .p)
+    let row = whole-in-row (g .r) (g .rows .now) (l .n) (g .next .now) (l .p) (pre .0 .0)
     (c .before .before .before .before .before .loop-test .taken) (l .inv .4) in
-    let start = row-start (g .r) (l .p) (pre .0 .0) in
-    let end = before-end (g .r) (l .p) (pre .0 .0) in
     let called = c .before .before .before .count-nodes in
     let k = rowEnd (g .r) (l .p) - (l .p + 1) in (
       omega arith,
       called .kept .1 .1 .1 .0 ∙ l .inv .1,
-      λ v. omega (arith, called .ensures .0 v, hits-le (g .rows .now) v k (l .p + 1), l .inv .2 v, start, pre .0),
+      λ v. omega (arith, called .ensures .0 v, hits-le (g .rows .now) v k (l .p + 1), l .inv .2 v, row, pre .0),
       called .ensures .1,
-      here .1,
+      all-follow (λ q. rowEnd (g .r) q ≤ length (g .rows .now)) (l .n) (g .next .now) (l .p)
+          (c .before .before .before .before .before .loop-test .taken) (l .inv .4) .1,
       λ v. omega (
         arith,
         called .ensures .0 v,
         chain-hits (g .r) (g .rows .now) (l .n) (g .next .now) (l .p) v
-            (c .before .before .before .before .before .loop-test .taken) (pre .1 .1 .0) (pre .0 .0) (here .0),
+            (c .before .before .before .before .before .loop-test .taken) (pre .1 .1 .0) (pre .0 .0) (row .0),
         l .inv .5 v,
       ),
     )

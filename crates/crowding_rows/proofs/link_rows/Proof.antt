@@ -44,23 +44,13 @@ add-end c =
     let l = c .before .loop in
     let g = c .before .before .before .before .before .before .args in
     let pre = c .before .before .before .before .before .before .pre in
-    let goal : ℕ → List Tail = λ u. tailsAfter (g .w) u (rowTails 0 (rowsAt (g .r) (g .c) (g .rows .now))) [] in
     let lt = c .loop-test .taken in
-    let pos : 0 < g .r = omega (arith, pre .0) in
-    let whole = row-whole (g .r) (g .w) (g .c) (g .rows .now) pos (pre .1 .1) (pre .0 .3) (l .i) (l .start) lt (l .inv .1) goal
-    (l .heads) (l .counts) (l .next) (l .inv .7) in
+    let whole = row-whole (g .r) (g .c) (g .rows .now) (l .i) (pre .0 .3) lt in
     omega (arith, whole, mul-le-mul {n₁ = g .c} {m₁ = g .r} {n₂ = 4096} {m₂ = 5} (pre .0 .2) (pre .0 .1))
 
 sub-link : tie.Need-sub-link Inv-loop μ-loop
 sub-link c =
-    let l = c .before .loop in
-    let g = c .before .before .before .before .before .before .args in
     let pre = c .before .before .before .before .before .before .pre in
-    let goal : ℕ → List Tail = λ u. tailsAfter (g .w) u (rowTails 0 (rowsAt (g .r) (g .c) (g .rows .now))) [] in
-    let lt = c .loop-test .taken in
-    let pos : 0 < g .r = omega (arith, pre .0) in
-    let whole = row-whole (g .r) (g .w) (g .c) (g .rows .now) pos (pre .1 .1) (pre .0 .3) (l .i) (l .start) lt (l .inv .1) goal
-    (l .heads) (l .counts) (l .next) (l .inv .7) in
     omega (arith, pre .0)
 
 link-requires : tie.Need-link-requires Inv-loop μ-loop
@@ -71,8 +61,7 @@ link-requires c κs =
     let goal : ℕ → List Tail = λ u. tailsAfter (g .w) u (rowTails 0 (rowsAt (g .r) (g .c) (g .rows .now))) [] in
     let lt = c .before .before .before .loop-test .taken in
     let pos : 0 < g .r = omega (arith, pre .0) in
-    let whole = row-whole (g .r) (g .w) (g .c) (g .rows .now) pos (pre .1 .1) (pre .0 .3) (l .i) (l .start) lt (l .inv .1) goal
-    (l .heads) (l .counts) (l .next) (l .inv .7) in (
+    let whole = row-whole (g .r) (g .c) (g .rows .now) (l .i) (pre .0 .3) lt in (
       (
         omega (arith, whole),
         omega (arith, pre .0),
@@ -103,8 +92,7 @@ loop-again c =
     let goal : ℕ → List Tail = λ u. tailsAfter (g .w) u (rowTails 0 (rowsAt (g .r) (g .c) (g .rows .now))) [] in
     let lt = c .before .before .before .before .before .before .before .before .before .before .loop-test .taken in
     let pos : 0 < g .r = omega (arith, pre .0) in
-    let whole = row-whole (g .r) (g .w) (g .c) (g .rows .now) pos (pre .1 .1) (pre .0 .3) (l .i) (l .start) lt (l .inv .1) goal
-    (l .heads) (l .counts) (l .next) (l .inv .7) in
+    let whole = row-whole (g .r) (g .c) (g .rows .now) (l .i) (pre .0 .3) lt in
     let called = c .before .before .before .before .before .before .link in
     let heads = called .last .1 .1 .1 .0 in
     let counts = called .last .1 .1 .1 .1 .0 in

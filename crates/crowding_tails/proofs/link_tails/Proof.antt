@@ -8,7 +8,7 @@ use Rattle.lists.specs.Lists.{largest}
 use Rattle.lists.proofs.Largest.{largest-most}
 use Rattle.crowding.specs.Tails.{Tail, tailsAfter}
 use Rattle.crowding.specs.Chains.{tailsAt, follow, AtMost, KeptTo}
-use Rattle.crowding.proofs.Walks.{Walk, walk-start, walk-first, walk-end, walk-grown, walk-chained, walk-fresh, walk-kept, walk-on, chain-longer, row-start, before-end}
+use Rattle.crowding.proofs.Walks.{Walk, walk-start, walk-first, walk-end, walk-grown, walk-chained, walk-fresh, walk-kept, walk-on, chain-longer, placed-in-row, row-start, before-end}
 use native.Mathlib.Omega.{arith}
 use borrow.Author.Needs.{needs}
 use Rattle.crowding_tails.proofs.link_tails.Statement.{statement}
@@ -44,26 +44,18 @@ mul-after c =
     let l = c .before .loop in
     let g = c .before .before .before .before .before .before .args in
     let pre = c .before .before .before .before .before .before .pre in
-    let v = getD (g .rows .now) (g .head) 0 in
-    let goal : ℕ → List Tail = λ u. tailsAfter (g .w) u (tailsAt (g .r) (g .rows .now) (follow (g .count) (g .next .now) (g .head))) [] in
-    let walk = walk-first (g .r) (g .w) (g .rows .now) v goal (l .heads) (l .counts) (l .next) (l .next) (l .n) (l .p)
-    (c .loop-test .taken) (l .inv .7) in
-    let here = walk .1 .0 in
     let pos : 0 < g .r = omega (arith, pre .0) in
-    omega (arith, here .0, before-end (g .r) (l .p) pos)
+    let row = placed-in-row (g .r) (g .rows .now) (l .n) (l .next) (l .p) pos (c .loop-test .taken) _ (l .inv .7 .1) in
+    omega (arith, row)
 
 slice-read-after : tie.Need-slice-read-after Inv-loop μ-loop
 slice-read-after c =
     let l = c .before .before .loop in
     let g = c .before .before .before .before .before .before .before .args in
     let pre = c .before .before .before .before .before .before .before .pre in
-    let v = getD (g .rows .now) (g .head) 0 in
-    let goal : ℕ → List Tail = λ u. tailsAfter (g .w) u (tailsAt (g .r) (g .rows .now) (follow (g .count) (g .next .now) (g .head))) [] in
-    let walk = walk-first (g .r) (g .w) (g .rows .now) v goal (l .heads) (l .counts) (l .next) (l .next) (l .n) (l .p)
-    (c .before .loop-test .taken) (l .inv .7) in
-    let here = walk .1 .0 in
     let pos : 0 < g .r = omega (arith, pre .0) in
-    omega (arith, here .0, before-end (g .r) (l .p) pos)
+    let row = placed-in-row (g .r) (g .rows .now) (l .n) (l .next) (l .p) pos (c .before .loop-test .taken) _ (l .inv .7 .1) in
+    omega (arith, row, pre .0)
 
 div-end : tie.Need-div-end Inv-loop μ-loop
 div-end c =
@@ -74,52 +66,36 @@ add-end c =
     let l = c .before .before .loop in
     let g = c .before .before .before .before .before .before .before .args in
     let pre = c .before .before .before .before .before .before .before .pre in
-    let v = getD (g .rows .now) (g .head) 0 in
-    let goal : ℕ → List Tail = λ u. tailsAfter (g .w) u (tailsAt (g .r) (g .rows .now) (follow (g .count) (g .next .now) (g .head))) [] in
-    let walk = walk-first (g .r) (g .w) (g .rows .now) v goal (l .heads) (l .counts) (l .next) (l .next) (l .n) (l .p)
-    (c .before .loop-test .taken) (l .inv .7) in
-    let here = walk .1 .0 in
     let pos : 0 < g .r = omega (arith, pre .0) in
-    omega (arith, div-le-self (l .p) (g .r), here .0, before-end (g .r) (l .p) pos)
+    let row = placed-in-row (g .r) (g .rows .now) (l .n) (l .next) (l .p) pos (c .before .loop-test .taken) _ (l .inv .7 .1) in
+    omega (arith, row, div-le-self (l .p) (g .r))
 
 mul-end : tie.Need-mul-end Inv-loop μ-loop
 mul-end c =
     let l = c .before .before .loop in
     let g = c .before .before .before .before .before .before .before .args in
     let pre = c .before .before .before .before .before .before .before .pre in
-    let v = getD (g .rows .now) (g .head) 0 in
-    let goal : ℕ → List Tail = λ u. tailsAfter (g .w) u (tailsAt (g .r) (g .rows .now) (follow (g .count) (g .next .now) (g .head))) [] in
-    let walk = walk-first (g .r) (g .w) (g .rows .now) v goal (l .heads) (l .counts) (l .next) (l .next) (l .n) (l .p)
-    (c .before .loop-test .taken) (l .inv .7) in
-    let here = walk .1 .0 in
     let pos : 0 < g .r = omega (arith, pre .0) in
-    omega (arith, here .0)
+    let row = placed-in-row (g .r) (g .rows .now) (l .n) (l .next) (l .p) pos (c .before .loop-test .taken) _ (l .inv .7 .1) in
+    omega (arith, row)
 
 add-link : tie.Need-add-link Inv-loop μ-loop
 add-link c =
     let l = c .before .before .loop in
     let g = c .before .before .before .before .before .before .before .args in
     let pre = c .before .before .before .before .before .before .before .pre in
-    let v = getD (g .rows .now) (g .head) 0 in
-    let goal : ℕ → List Tail = λ u. tailsAfter (g .w) u (tailsAt (g .r) (g .rows .now) (follow (g .count) (g .next .now) (g .head))) [] in
-    let walk = walk-first (g .r) (g .w) (g .rows .now) v goal (l .heads) (l .counts) (l .next) (l .next) (l .n) (l .p)
-    (c .before .loop-test .taken) (l .inv .7) in
-    let here = walk .1 .0 in
     let pos : 0 < g .r = omega (arith, pre .0) in
-    omega (arith, here .0, before-end (g .r) (l .p) pos)
+    let row = placed-in-row (g .r) (g .rows .now) (l .n) (l .next) (l .p) pos (c .before .loop-test .taken) _ (l .inv .7 .1) in
+    omega (arith, row)
 
 sub-link : tie.Need-sub-link Inv-loop μ-loop
 sub-link c =
     let l = c .before .before .loop in
     let g = c .before .before .before .before .before .before .before .args in
     let pre = c .before .before .before .before .before .before .before .pre in
-    let v = getD (g .rows .now) (g .head) 0 in
-    let goal : ℕ → List Tail = λ u. tailsAfter (g .w) u (tailsAt (g .r) (g .rows .now) (follow (g .count) (g .next .now) (g .head))) [] in
-    let walk = walk-first (g .r) (g .w) (g .rows .now) v goal (l .heads) (l .counts) (l .next) (l .next) (l .n) (l .p)
-    (c .before .loop-test .taken) (l .inv .7) in
-    let here = walk .1 .0 in
     let pos : 0 < g .r = omega (arith, pre .0) in
-    omega (arith, pre .0, before-end (g .r) (l .p) pos)
+    let row = placed-in-row (g .r) (g .rows .now) (l .n) (l .next) (l .p) pos (c .before .loop-test .taken) _ (l .inv .7 .1) in
+    omega (arith, row, pre .0)
 
 link-requires : tie.Need-link-requires Inv-loop μ-loop
 link-requires c κs =

@@ -8,7 +8,6 @@ use native.Mathlib.Omega.{arith}
 use borrow.Author.Needs.{needs}
 use Rattle.crowding_test.proofs.build.Statement.{statement}
 use Rattle.crowding_test.proofs.build.Tie as tie
-use Rattle.crowding_test.proofs.node.Reads as node-reads
 
 abbrev Inv-loop : tie.InvT-loop
 Inv-loop rows₀ t₀ rows t = (t ≤ 20480) × (length rows ≡ 20480) × GroupedTo t rows
