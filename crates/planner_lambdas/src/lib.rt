@@ -16,13 +16,14 @@ fn copies_for(c: usize, m: usize) -> usize
     (c + (m - 1)) / m
 }
 
-// lambda of each layer below s: its copies × mu.
+// lambda of each layer below s: its copies × mu; 0 from layer s on.
 pub fn lambdas(mu: [usize; 5], m: [usize; 5], counts: [usize; 5], s: usize) -> [usize; 5]
     requires { ⌜ s ≤ 5 ⌝ }
     requires { ⌜ ((x : ℕ) → x < s → getD counts x 0 ≤ 4096) ⌝ }
     requires { ⌜ ((x : ℕ) → getD m x 0 ≤ 4096) ⌝ }
     requires { ⌜ ((x : ℕ) → getD mu x 0 ≤ 4096) ⌝ }
-    ensures { λ lambda. ⌜ ((x : ℕ) → x < s → getD lambda x 0 ≡ lambdaOf mu m counts x) ⌝ }
+    ensures below { λ lambda. ⌜ ((x : ℕ) → x < s → getD lambda x 0 ≡ lambdaOf mu m counts x) ⌝ }
+    ensures rest { λ lambda. ⌜ ((x : ℕ) → s ≤ x → getD lambda x 0 ≡ 0) ⌝ }
 {
     let mut lambda = [0usize; 5];
     let mut x: usize = 0;

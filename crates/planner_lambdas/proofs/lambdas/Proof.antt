@@ -1,24 +1,27 @@
--- `planner_lambdas::lambdas` meets its contract. The loop's invariant: the entries below x are lambda's. Assumes nothing.
+-- `planner_lambdas::lambdas` meets its contract. The loop's invariant: the entries below x are lambda's, the others 0. Assumes
+-- nothing.
 use Prim.Native.Nat.{ℕ, _-_, _*_, _≤_}
 use native.Mathlib.Omega.{arith}
 use native.Mathlib.Nat.{not-suc-le-zero}
-use mathlib.Core.Path.{_≡_, refl, ap}
+use mathlib.Core.Path.{_≡_, refl, ap, _∙_}
 use lib.ListN.{getD}
+use lib.Seq.{getD-set-other}
 use Rattle.split.proofs.Bounds.{copiesFor-mul-bound-le}
 use Rattle.planner.specs.Writing.{lambdaOf}
-use Rattle.planner_lambdas.proofs.Filled.{FilledTo, filled-next}
+use Rattle.planner_lambdas.proofs.Filled.{FilledTo, filled-next, zeros}
 use borrow.Author.Needs.{needs}
 use Rattle.planner_lambdas.proofs.lambdas.Statement.{statement}
 use Rattle.planner_lambdas.proofs.lambdas.Tie as tie
 
 abbrev Inv-loop : tie.InvT-loop
-Inv-loop s mu m counts lambda₀ x₀ lambda x = (x ≤ s) × FilledTo (lambdaOf mu m counts) lambda 5 x
+Inv-loop s mu m counts lambda₀ x₀ lambda x =
+    (x ≤ s) × FilledTo (lambdaOf mu m counts) lambda 5 x × ((y : ℕ) → x ≤ y → getD lambda y 0 ≡ 0)
 
 abbrev μ-loop : tie.MeasureT-loop
 μ-loop s mu m counts lambda₀ x₀ lambda x = s - x
 
 loop-holds : tie.Need-loop-holds Inv-loop μ-loop
-loop-holds c = (omega arith, record { whole = refl; entries = λ y lt. absurd (not-suc-le-zero lt) })
+loop-holds c = (omega arith, record { whole = refl; entries = λ y lt. absurd (not-suc-le-zero lt) }, λ y le. zeros 5 y)
 
 mul-copies-for : tie.Need-mul-copies-for Inv-loop μ-loop
 mul-copies-for c = search needs
@@ -70,14 +73,17 @@ loop-less c = omega arith
 loop-again : tie.Need-loop-again Inv-loop μ-loop
 loop-again c =
     let l = c .before .before .loop in
-    let a = c .before .before .before .args in
-    (omega arith, filled-next (l .inv .1) (omega arith) _ (ap (λ (d : ℕ). d * getD (a .t1) (l .x) 0) (c .copies-for .ensures)))
+    let a = c .before .before .before .args in (
+      omega arith,
+      filled-next (l .inv .1) (omega arith) _ (ap (λ (d : ℕ). d * getD (a .t1) (l .x) 0) (c .copies-for .ensures)),
+      λ y le. getD-set-other (l .lambda) (l .x) y _ 0 (λ e. omega (arith, le, e)) ∙ l .inv .2 y (omega (arith, le)),
+    )
 
 returns : tie.Need-returns Inv-loop μ-loop
 returns c =
     let l = c .before .loop in
     let done : l .x ≡ c .before .before .args .s = omega arith in
-    λ y lt. l .inv .1 .entries y (omega arith)
+    (λ y lt. l .inv .1 .entries y (omega arith), λ y le. l .inv .2 y (omega (arith, le)))
 
 pub lambdas-spec : {M : Type 1} → statement M
 lambdas-spec =

@@ -18,14 +18,14 @@ lambdas-requires c κs =
 figure-of-requires : tie.Need-figure-of-requires
 figure-of-requires c κs =
     let s = c .before .before .before in
-    figure-limits (s .pre .0) (c .lambdas .result) (c .lambdas .ensures)
+    figure-limits (s .pre .0) (c .lambdas .result) (c .lambdas .ensures .0)
 
 write-head-requires : tie.Need-write-head-requires
 write-head-requires c κs =
     let s = c .before .before .before .before .before in
     let lambda = c .before .before .lambdas in
     let figure = c .before .figure-of in
-    head-limits (s .pre .0) (lambda .result) (lambda .ensures) (figure .result) (figure .ensures)
+    head-limits (s .pre .0) (lambda .result) (lambda .ensures .0) (figure .result) (figure .ensures)
     (s .args .out .now) (s .pre .1)
 
 -- after the head there is room for the rows
@@ -36,7 +36,7 @@ room c =
     let lambda = c .before .before .before .lambdas in
     let figure = c .before .before .figure-of in
     let head = c .write-head in
-    rows-fit (s .pre .0) (lambda .result) (lambda .ensures) (figure .result) (figure .ensures)
+    rows-fit (s .pre .0) (lambda .result) (lambda .ensures .0) (figure .result) (figure .ensures)
     (s .args .out .now) (s .pre .1) (head .last .0) (head .result) (head .ensures)
 
 sub-write-layers : tie.Need-sub-write-layers
@@ -54,7 +54,7 @@ write-layers-requires c κs =
     let lambda = c .before .before .before .before .before .before .lambdas in
     let figure = c .before .before .before .before .before .figure-of in
     let head = c .before .before .before .write-head in
-    rows-limits (s .pre .0) (lambda .result) (lambda .ensures) (figure .result) (figure .ensures)
+    rows-limits (s .pre .0) (lambda .result) (lambda .ensures .0) (figure .result) (figure .ensures)
     (s .args .out .now) (s .pre .1) (head .last .0) (head .result) (head .ensures)
 
 mul-t18 : tie.Need-mul-t18
@@ -73,9 +73,9 @@ returns c =
     let figure = c .before .before .before .before .before .before .before .before .figure-of in
     let head = c .before .before .before .before .before .before .write-head in
     let rows = c .before .before .write-layers in (
-      answer-is (s .pre .0) (lambda .result) (lambda .ensures) (figure .result) (figure .ensures)
+      answer-is (s .pre .0) (lambda .result) (lambda .ensures .0) (figure .result) (figure .ensures)
           (s .args .out .now) (s .pre .1) (head .last .0) (head .result) (head .ensures) (rows .last .0) (rows .ensures),
-      output-is (s .pre .0) (lambda .result) (lambda .ensures) (figure .result) (figure .ensures)
+      output-is (s .pre .0) (lambda .result) (lambda .ensures .0) (figure .result) (figure .ensures)
           (s .args .out .now) (s .pre .1) (head .last .0) (head .result) (head .ensures) (rows .last .0) (rows .ensures),
     )
 
