@@ -11,6 +11,7 @@ use lib.Dec.{eqb}
 use borrow.Author.Tests.{eqb-true, eqb-false}
 use Rattle.lists.specs.Lists.{All}
 use Rattle.lists.proofs.Alls.{all-imp}
+use Rattle.lists.proofs.Parts.{getD-zeros}
 use Rattle.crowding.specs.Chains.{follow, chain, linked, lowestAt, Outside, AtMost, Fresh, KeptOutside}
 
 pub length-follow : (n : ℕ) (next : List ℕ) (p : ℕ) → length (follow n next p) ≡ n
@@ -26,9 +27,7 @@ chain-empty heads counts next v h =
 
 -- in a new level every chain is empty
 pub at-most-zero : (n : ℕ) → AtMost 0 (replicate n 0)
-at-most-zero zero v = omega arith
-at-most-zero (suc n) zero = omega arith
-at-most-zero (suc n) (suc v) = at-most-zero n v
+at-most-zero n v = omega (arith, getD-zeros n v)
 
 -- a chain's first position, and the chain after it
 pub follow-next : (n : ℕ) (next : List ℕ) (p : ℕ) → 0 < n → follow n next p ≡ p ∷ follow (n - 1) next (getD next p 0)

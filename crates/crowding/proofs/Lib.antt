@@ -7,7 +7,7 @@ pub mod TailsFew
 pub mod Crowded
 pub mod Follow
 pub mod Rows
-pub mod Hits
+pub mod Times
 pub mod Walks
 pub mod Order
 pub mod Roots

@@ -15,7 +15,7 @@ use Rattle.crowding.specs.Tails.{Tail, tailsAfter, lowestRow, overNodes,
 use Rattle.crowding.proofs.TailsFew.{lowest-few}
 use Rattle.crowding.specs.Chains.{tailsAt, follow, chain, lowestAt, lowestChild, mostAfter, Placed, Chained, NodesBelow, EmptyBelow, AllChained, Grown, KeptTo, KeptBelow}
 use Rattle.crowding.proofs.Follow.{all-follow}
-use Rattle.crowding.proofs.Hits.{length-tails, after-most}
+use Rattle.crowding.proofs.Times.{length-tails, after-most}
 use Rattle.crowding.proofs.Walks.{follow-kept-to, before-end}
 
 over-next : (f : ℕ → ℕ → ℕ) (v least : ℕ) → 0 < v → overNodes f (v - 1) (f (v - 1) least) ≡ overNodes f v least

@@ -36,9 +36,9 @@ linked rows v f zero found = found
 linked rows v f (suc n) found = linked rows v (suc f) n (cond (eqb v (getD rows f 0)) (f ∷ found) found)
 
 -- how many of the n positions from f on have node v
-unfoldable pub hits : (rows : List ℕ) (v f n : ℕ) → ℕ
-hits rows v f zero = 0
-hits rows v f (suc n) = tally (eqb v (getD rows f 0)) (hits rows v (suc f) n)
+unfoldable pub times : (rows : List ℕ) (v f n : ℕ) → ℕ
+times rows v f zero = 0
+times rows v f (suc n) = tally (eqb v (getD rows f 0)) (times rows v (suc f) n)
 
 -- the least of `least` and the positions' row numbers
 unfoldable pub lowestAt : (r least : ℕ) → List ℕ → ℕ
@@ -112,7 +112,7 @@ KeptBelow rows counts next last = (v : ℕ) → EmptyBelow (v + 1) counts → Ke
 
 -- each node's count is raised by the positions that have the node
 abbrev pub Counted : (rows : List ℕ) (from n : ℕ) (counts last : List ℕ) → Type 0
-Counted rows from n counts last = (v : ℕ) → getD last v 0 ≡ getD counts v 0 + hits rows v from n
+Counted rows from n counts last = (v : ℕ) → getD last v 0 ≡ getD counts v 0 + times rows v from n
 
 -- the largest number of tails after one node
 abbrev pub largestAfter : (w : ℕ) (tails : List Tail) → ℕ

@@ -51,6 +51,11 @@ fit-le false left room sum k = k
 fit-le true zero room sum k = k
 fit-le true (suc left) room sum k = omega arith
 
+-- "the last must equal what is left": the sizes of one layer or more that must fill the room are the room
+pub fit-full : (left room sum : ℕ) → 1 ≤ left → SizesFit true left room sum → sum ≡ room
+fit-full zero room sum h k = absurd (omega arith)
+fit-full (suc left) room sum h k = k
+
 -- one layer's size, and those of the layers after it
 fit-cons : (full : Bool) (left room size sum : ℕ) → (left ≡ 0 → sum ≡ 0) → leastSize full left room ≤ size → size ≤ room
     → SizesFit full left (room - size) sum → SizesFit full (suc left) room (size + sum)

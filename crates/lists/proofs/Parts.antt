@@ -1,11 +1,11 @@
--- Parts of lists: from a place on, and between two places. Assumes nothing.
+-- Parts of lists: from a place on, and between two places; elements of an array of zeros. Assumes nothing.
 use Prim.Native.Nat.{ℕ, zero, suc, _+_, _-_, _<_, suc-le-suc}
 use native.Mathlib.Nat.{zero-lt-suc, sub-zero, zero-sub, suc-sub-suc}
 use native.Mathlib.Numerals.{add-one}
 use native.Mathlib.Omega.{arith}
-use mathlib.Core.Path.{_≡_, sym, _∙_, ap}
+use mathlib.Core.Path.{_≡_, refl, sym, _∙_, ap}
 use mathlib.Core.List.{List, [], _∷_}
-use lib.ListN.{length, getD, take, drop}
+use lib.ListN.{length, getD, take, drop, replicate}
 use lib.Seq.{slice, take-nil, drop-nil, drop-cons}
 
 module _ {A : Type 0} where
@@ -32,3 +32,8 @@ module _ {A : Type 0} where
   slice-eq-take-drop (suc f) zero l = rw zero-sub
   slice-eq-take-drop (suc f) (suc t) [] = sym (take-nil (suc t - suc f))
   slice-eq-take-drop (suc f) (suc t) (a ∷ l) = rw suc-sub-suc (slice-eq-take-drop f t l)
+
+pub getD-zeros : (n i : ℕ) → _≡_ {A = ℕ} (getD (replicate n 0) i 0) 0
+getD-zeros zero i = refl
+getD-zeros (suc n) zero = refl
+getD-zeros (suc n) (suc i) = getD-zeros n i

@@ -15,16 +15,12 @@ use Rattle.refusal.proofs.Checked.{accepted-injective, bind-elim, require-bind-
 use Rattle.number.specs.Numbers.{Bytes, Reading, readWithin}
 use Rattle.number.proofs.Within.{read-of-readWithin, readWithin-accepted}
 use Rattle.layers.specs.Layers.{Layer, LayerHead, sizes, headsOf, readKind, readLayers, checkRows}
-use Rattle.layers.proofs.Heads.{SizesFit, HeadsWithin, read-of-readKind, readKind-accepted}
+use Rattle.layers.proofs.Heads.{SizesFit, HeadsWithin, read-of-readKind, readKind-accepted, fit-full}
 use Rattle.layers.proofs.Files.{FileRead, LayersRead, file-read, read-file, read-of-layers, heads-accepted, rows-accepted}
 use Rattle.placement.specs.Figure.{figureOf}
 use Rattle.placement.specs.Placement.{Placement, PlacementFile, PlacementLimits, GoodPlacement, placementNumbers, placementLayerLimits, checkPlacement}
 
--- the sizes of one layer or more that must fill the room are the room
-fit-full : (left room sum : ℕ) → 1 ≤ left → SizesFit true left room sum → sum ≡ room
-fit-full zero room sum h k = absurd (omega arith)
-fit-full (suc left) room sum h k = k
-
+-- sizes that are the room fill it
 full-fit : (left room sum : ℕ) → sum ≡ room → SizesFit true left room sum
 full-fit zero room sum e = omega arith
 full-fit (suc left) room sum e = e

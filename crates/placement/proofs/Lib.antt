@@ -1,4 +1,5 @@
 pub mod Written
+pub mod Losses
 pub mod Survivors
 pub mod Accepted
 pub mod Prefix

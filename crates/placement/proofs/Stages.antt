@@ -1,6 +1,6 @@
 -- The answers of checking a placement from its layers' numbers on, over what reading these numbers, checking the rows and
 -- the figure answered. Assumes nothing.
-use Prim.Native.Nat.{ℕ, zero, suc, _-_, _*_, _≤_}
+use Prim.Native.Nat.{ℕ, _-_, _*_, _≤_}
 use native.Mathlib.Omega.{arith}
 use mathlib.Core.Path.{_≡_, refl, sym, _∙_}
 use mathlib.Core.Bool.{true}
@@ -19,7 +19,7 @@ use Rattle.layers.specs.declared.HeadsAnswer.the-variants.{Next, Refused as Hea
 use Rattle.layers.specs.declared.LayersRead.{LayersRead}
 use Rattle.layers.specs.declared.RowsAnswer.{RowsAnswer}
 use Rattle.layers.specs.declared.RowsAnswer.the-variants.{Good, Refused as RowsRefused}
-use Rattle.layers.proofs.Heads.{SizesFit, fit-le}
+use Rattle.layers.proofs.Heads.{fit-le, fit-full}
 use Rattle.layers.proofs.RowsChecked.{taken-of-checkRows, taken-heads}
 use Rattle.layers.proofs.Stages.{LayersTaken, layers-taken, layers-refused, rows-refused, rows-good, good-bounds, good-sizes, good-place}
 use Rattle.placement.specs.Figure.{figureOf}
@@ -34,11 +34,6 @@ use Rattle.placement.specs.declared.PlacementAnswer.the-variants.{Accept
 pub stages : (bytes : List ℕ) → checkPlacement bytes ≡ (readKind 2 bytes >>= λ kind. afterKind bytes (kind .next))
 unfolding checkPlacement afterKind afterN afterR afterS afterK afterB afterFigure
 stages bytes = refl
-
--- "the last must equal what is left": the sizes of at least one layer sum to b
-full-sum : (s b sum : ℕ) → 1 ≤ s → SizesFit true s b sum → sum ≡ b
-full-sum zero b sum h k = absurd (omega arith)
-full-sum (suc s) b sum h k = k
 
 module _ (bytes : List ℕ) (h : Head) (at : ℕ) (read : LayersRead)
     (is : read ≡ layersRead (readLayers placementLayerLimits (h .s) (h .b) bytes at)) where
@@ -115,7 +110,7 @@ module _ (bytes : List ℕ) (h : Head) (at : ℕ) (read : LayersRead)
         figure-right k =
             let t = taken in
             let (l, accept) = layers in
-            let sum = full-sum (h .s) (h .b) (sizes (t .heads)) (limits .s-least) (t .within .fit) in
+            let sum = fit-full (h .s) (h .b) (sizes (t .heads)) (limits .s-least) (t .within .fit) in
             let place : length bytes - h .b * h .r ≡ first =
             rw (← sum) (sym (good-place (h .n) (h .r) (t .heads) bytes first accept)) in
             rw (

@@ -4,9 +4,9 @@ use Prim.Native.Nat.{ℕ, suc, _+_, _*_, _-_, _/_, _^_, _≤_, _<_, min}
 use native.Mathlib.Omega.{arith}
 use native.Mathlib.Numerals.{add-one}
 use mathlib.Core.Path.{_≡_, _∙_, ap}
-use mathlib.Core.List.{List, [], _∷_}
+use mathlib.Core.List.{List, []}
 use lib.ListN.{drop, getD}
-use Rattle.lists.specs.Lists.{All, total}
+use Rattle.lists.specs.Lists.{All}
 use Rattle.lists.proofs.Alls.{all-getD}
 use Rattle.lists.proofs.UpTo.{length-map-upTo, getD-map-upTo}
 use Rattle.binomial.specs.Choose.{choose}
@@ -15,12 +15,7 @@ use Rattle.layers.specs.Layers.{LayerHead, sizes}
 use Rattle.layers.specs.Answers.{arrayHeads}
 use Rattle.layers.proofs.Arrays.{headAt, drop-arrayHeads, drop-arrayHeads-all}
 use Rattle.placement.specs.Figure.{loss, losses, figureOf}
-
--- a layer loses at most its rows
-pub losses-le-sizes : (s k x : ℕ) (heads : List LayerHead) → losses s k x heads ≤ sizes heads
-unfolding losses loss total
-losses-le-sizes s k x [] = omega arith
-losses-le-sizes s k x (head ∷ heads) = omega (arith, losses-le-sizes s k (suc x) heads)
+use Rattle.placement.proofs.Losses.{losses-le-sizes}
 
 -- What each turn keeps: what is lost so far and the losses of the layers from x on are the losses of all.
 pub record Turn (s k : ℕ) (lambda c : List ℕ) (lost x : ℕ) : Type 0 where

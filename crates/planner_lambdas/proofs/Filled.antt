@@ -1,12 +1,12 @@
 -- An array filled entry by entry. Assumes nothing.
-use Prim.Native.Nat.{ℕ, zero, suc, _+_, _<_}
+use Prim.Native.Nat.{ℕ, _+_, _<_}
 use native.Mathlib.Omega.{arith}
 use native.Mathlib.Numerals.{add-one}
 use native.Mathlib.Nat.{eq-or-lt-of-le, le-of-suc-le-suc}
-use mathlib.Core.Path.{_≡_, refl, _∙_}
+use mathlib.Core.Path.{_≡_, _∙_}
 use mathlib.Core.Logic.{_⊎_, inl, inr}
 use mathlib.Core.List.{List}
-use lib.ListN.{length, getD, set, replicate, length-set}
+use lib.ListN.{length, getD, set, length-set}
 use lib.Seq.{getD-set-same, getD-set-other}
 
 -- the entries below x are f's values
@@ -25,9 +25,3 @@ filled-next {f} {array} {long} {x} h lt v e = record {
     at : (y : ℕ) → (y ≡ x) ⊎ (y < x) → getD (set array x v) y 0 ≡ f y
     at y (inl p) = rw p (getD-set-same array x v 0 (omega (arith, h .whole)) ∙ e)
     at y (inr l) = getD-set-other array x y v 0 (λ p. omega arith) ∙ h .entries y l
-
--- an array of zeros
-pub zeros : (n y : ℕ) → _≡_ {A = ℕ} (getD (replicate n 0) y 0) 0
-zeros zero y = refl
-zeros (suc n) zero = refl
-zeros (suc n) (suc y) = zeros n y

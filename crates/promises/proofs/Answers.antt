@@ -10,7 +10,7 @@ use lib.Dec.{lit≤}
 use Rattle.refusal.specs.declared.Refusal.{Refusal}
 use Rattle.refusal.specs.declared.Refusal.the-variants.{Ended, Malformed, WrongKind, OutsideLimits, Trailing, BadRow, Crowded, WrongFigure, NoBlock, ShortWork, ShortOutput, BadOrder}
 use Rattle.refusal.specs.Refusals.{result, numberOf}
-use Rattle.refusal.specs.Checked.{Checked, accepted, refused, outcome, written}
+use Rattle.refusal.specs.Checked.{Checked, accepted, refused, _>>=_, outcome, written}
 use Rattle.number.specs.Numbers.{Reading}
 use Rattle.number.specs.Answers.{numberRead, readOutcome, numberWritten, writtenOutcome}
 use Rattle.packing.specs.Answers.{rowFound, rowOutcome}
@@ -20,11 +20,13 @@ use Rattle.pack.specs.Pack.{Pack}
 use Rattle.pack.specs.Answers.{packChecked, packOutcome}
 use Rattle.placement.specs.Placement.{Placement, placementBytes}
 use Rattle.placement.specs.Answers.{placementChecked, placementOutcome}
+use Rattle.planner.specs.Planning.{outputAfter, WorkAfter}
 use Rattle.planner.specs.Answers.{planAnswer, planOutcome}
 use Rattle.planner.specs.Steps.{orderAnswer, orderOutcome}
 use Rattle.walk.specs.declared.Cursor.{Cursor}
 use Rattle.walk.specs.RowWalk.{walkOpened, walkOutcome}
-use Rattle.report.specs.Programs.{Order}
+use Rattle.report.specs.Programs.{Order, planInput}
+use Rattle.report.specs.Replies.{planSlices, PlanWork}
 use Rattle.report.specs.Answers.{reply, replyOutcome, orderRead, orderOutcome as numbersOutcome}
 
 -- "a numbered refusal": 1 to 12
@@ -42,9 +44,19 @@ demand-1-numbered (ShortWork p) = (lit≤ tt, lit≤ tt)
 demand-1-numbered (ShortOutput p) = (lit≤ tt, lit≤ tt)
 demand-1-numbered (BadOrder p) = (lit≤ tt, lit≤ tt)
 
--- "after a refusal each lent buffer holds what it held before"
+-- "after a refusal each lent buffer holds what it held before": the slice that a number or a program's reply is put into
 pub demand-1-unchanged : (e : Refusal) (out : List ℕ) → written (refused e) out ≡ out
 demand-1-unchanged e out = refl
+
+-- the planner's output and its working slice
+pub demand-1-plan-unchanged : (e : Refusal) (s b : ℕ) (out before after : List ℕ) → WorkAfter (refused e) s b before after
+    → (outputAfter (refused e) out ≡ out) × (after ≡ before)
+demand-1-plan-unchanged e s b out before after same = (refl, same)
+
+-- the working slice of the program `plan`, where its slices are refused, or its input
+pub demand-1-reply-unchanged : (input : List ℕ) (work output : ℕ) (e : Refusal) (before after : List ℕ)
+    → (planSlices work output >>= (λ _. planInput input)) ≡ refused e → PlanWork input work output before after → after ≡ before
+demand-1-reply-unchanged input work output e before after is left = rw is at left
 
 -- reading and writing a number
 pub demand-1-read : (c : Checked Reading) → readOutcome (numberRead c) ≡ outcome (λ n. n .value ∷ n .next ∷ []) c

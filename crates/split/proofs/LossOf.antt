@@ -12,7 +12,8 @@ use Rattle.layers.specs.Layers.{LayerHead}
 use Rattle.placement.specs.Figure.{loss}
 use Rattle.split.specs.Splits.{layerAt, shareHead, shareOf, copiesFor, noSplit, lossOf}
 use Rattle.split.proofs.Copies.{le-copiesFor-mul, copiesFor-least}
-use Rattle.split.proofs.Losses.{loss-mono, loss-le-size}
+use Rattle.placement.proofs.Losses.{loss-le-size}
+use Rattle.split.proofs.Losses.{loss-mono}
 
 -- the test that a layer without a block is to hold a record
 pub refused-test : (m c : ℕ) → m ≡ 0 → 0 < c → (eqb m 0 && ltb 0 c) ≡ true

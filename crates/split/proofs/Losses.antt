@@ -1,5 +1,5 @@
 -- What a layer loses, by its bound and its records; the losses of layers that are put together. Assumes nothing.
-use Prim.Native.Nat.{ℕ, suc, _+_, _*_, _≤_, zero-le}
+use Prim.Native.Nat.{ℕ, suc, _+_, _*_, _≤_}
 use native.Mathlib.Nat.{mul-le-mul-right}
 use native.Mathlib.Omega.{arith}
 use mathlib.Core.Path.{_≡_}
@@ -16,19 +16,6 @@ pub loss-mono : (s k x : ℕ) (g h : LayerHead) → g .bound ≤ h .bound → g 
 unfolding loss
 loss-mono s k x g h p q =
     let e = div-le-div-right (g .bound * choose k (suc x)) (h .bound * choose k (suc x)) (choose s (suc x)) (mul-le-mul-right (choose k (suc x)) p) in
-    omega arith
-
--- a layer loses at most its records
-pub loss-le-size : (s k x : ℕ) (head : LayerHead) → loss s k x head ≤ head .size
-unfolding loss
-loss-le-size s k x head = omega arith
-
-pub losses-le-sizes : (s k x : ℕ) (heads : List LayerHead) → losses s k x heads ≤ sizes heads
-unfolding losses total
-losses-le-sizes s k x [] = zero-le
-losses-le-sizes s k x (head ∷ heads) =
-    let g = loss-le-size s k x head in
-    let h = losses-le-sizes s k (suc x) heads in
     omega arith
 
 pub losses-append : (s k x : ℕ) (g h : List LayerHead) → losses s k x (g ++ h) ≡ losses s k x g + losses s k (x + length g) h

@@ -11,7 +11,7 @@ use Rattle.layers.specs.Layers.{LayerHead}
 use Rattle.placement.specs.Figure.{losses, figureOf}
 use Rattle.split.specs.Splits.{Share, Split, Named, Foremost, layerAt, splitHeads, splitFigure, noSplit, leastLoss, namedCounts, namedSplit, hasBlock}
 use Rattle.split.proofs.Copies.{copiesFor-least}
-use Rattle.split.proofs.Losses.{losses-le-sizes}
+use Rattle.placement.proofs.Losses.{losses-le-sizes}
 use Rattle.split.proofs.LeastLoss.{leastLoss-le-losses, leastLoss-le-self}
 use Rattle.split.proofs.NamedCounts.{namedBelow-split, namedBelow-losses, namedBelow-foremost}
 

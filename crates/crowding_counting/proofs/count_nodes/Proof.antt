@@ -5,9 +5,9 @@ use mathlib.Core.Path.{_≡_, refl, sym, ap, _∙_}
 use lib.ListN.{length, getD, length-set}
 use Rattle.lists.specs.Lists.{largest}
 use Rattle.lists.proofs.Largest.{largest-set}
-use Rattle.crowding.specs.Chains.{hits, AtMost}
+use Rattle.crowding.specs.Chains.{times, AtMost}
 use Rattle.crowding.proofs.Follow.{at-most-set}
-use Rattle.crowding.proofs.Hits.{count-turn, hits-end}
+use Rattle.crowding.proofs.Times.{count-turn, times-end}
 use native.Mathlib.Omega.{arith}
 use borrow.Author.Needs.{needs}
 use Rattle.crowding_counting.proofs.count_nodes.Statement.{statement}
@@ -16,7 +16,7 @@ use Rattle.crowding_counting.proofs.count_nodes.Tie as tie
 abbrev Inv-loop : tie.InvT-loop
 Inv-loop rows from to counts₀ most₀ f₀ most₁ counts f most =
     (from ≤ f) × (length counts ≡ 256) × AtMost (65535 - (to - f)) counts × (most ≡ largest counts)
-    × ((v : ℕ) → getD counts v 0 + hits rows v f (to - f) ≡ getD counts₀ v 0 + hits rows v from (to - from))
+    × ((v : ℕ) → getD counts v 0 + times rows v f (to - f) ≡ getD counts₀ v 0 + times rows v from (to - from))
 
 abbrev μ-loop : tie.MeasureT-loop
 μ-loop rows from to counts₀ most₀ f₀ most₁ counts f most = to - f
@@ -96,7 +96,7 @@ returns : tie.Need-returns Inv-loop μ-loop
 returns c =
     let l = c .before .loop in
     let g = c .before .before .before .before .args in
-    (λ v. omega (arith, hits-end (g .rows .now) v (l .f) (g .to) (omega arith), l .inv .4 v), l .inv .3)
+    (λ v. omega (arith, times-end (g .rows .now) v (l .f) (g .to) (omega arith), l .inv .4 v), l .inv .3)
 
 pub count-nodes-spec : {M : Type 1} → statement M
 count-nodes-spec =

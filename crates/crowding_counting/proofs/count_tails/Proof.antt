@@ -10,7 +10,7 @@ use Rattle.lists.proofs.Largest.{largest-most}
 use Rattle.crowding.specs.Tails.{tailsAfter}
 use Rattle.crowding.specs.Chains.{rowEnd, tailsAt, follow, AtMost}
 use Rattle.crowding.proofs.Follow.{all-follow}
-use Rattle.crowding.proofs.Hits.{hits-le, chain-hits, chain-end, largest-counts}
+use Rattle.crowding.proofs.Times.{times-le, chain-times, chain-end, largest-counts}
 use Rattle.crowding.proofs.Walks.{whole-in-row}
 use native.Mathlib.Omega.{arith}
 use borrow.Author.Needs.{needs}
@@ -115,14 +115,14 @@ loop-again c =
     let k = rowEnd (g .r) (l .p) - (l .p + 1) in (
       omega arith,
       called .kept .1 .1 .1 .0 ∙ l .inv .1,
-      λ v. omega (arith, called .ensures .0 v, hits-le (g .rows .now) v k (l .p + 1), l .inv .2 v, row, pre .0),
+      λ v. omega (arith, called .ensures .0 v, times-le (g .rows .now) v k (l .p + 1), l .inv .2 v, row, pre .0),
       called .ensures .1,
       all-follow (λ q. rowEnd (g .r) q ≤ length (g .rows .now)) (l .n) (g .next .now) (l .p)
           (c .before .before .before .before .before .loop-test .taken) (l .inv .4) .1,
       λ v. omega (
         arith,
         called .ensures .0 v,
-        chain-hits (g .r) (g .rows .now) (l .n) (g .next .now) (l .p) v
+        chain-times (g .r) (g .rows .now) (l .n) (g .next .now) (l .p) v
             (c .before .before .before .before .before .loop-test .taken) (pre .1 .1 .0) (pre .0 .0) (row .0),
         l .inv .5 v,
       ),

@@ -1,7 +1,7 @@
 -- `crowding_counting::most_after` meets its contract. Assumes nothing.
 use mathlib.Core.Path.{refl, sym}
 use Rattle.crowding.proofs.Follow.{at-most-zero}
-use Rattle.crowding.proofs.Hits.{length-tails}
+use Rattle.crowding.proofs.Times.{length-tails}
 use borrow.Author.Tests.{eq-eqb, ne-eqb}
 use native.Mathlib.Omega.{arith}
 use borrow.Author.Needs.{needs}

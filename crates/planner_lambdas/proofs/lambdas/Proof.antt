@@ -6,9 +6,10 @@ use native.Mathlib.Nat.{not-suc-le-zero}
 use mathlib.Core.Path.{_≡_, refl, ap, _∙_}
 use lib.ListN.{getD}
 use lib.Seq.{getD-set-other}
+use Rattle.lists.proofs.Parts.{getD-zeros}
 use Rattle.split.proofs.Bounds.{copiesFor-mul-bound-le}
 use Rattle.planner.specs.Writing.{lambdaOf}
-use Rattle.planner_lambdas.proofs.Filled.{FilledTo, filled-next, zeros}
+use Rattle.planner_lambdas.proofs.Filled.{FilledTo, filled-next}
 use borrow.Author.Needs.{needs}
 use Rattle.planner_lambdas.proofs.lambdas.Statement.{statement}
 use Rattle.planner_lambdas.proofs.lambdas.Tie as tie
@@ -21,7 +22,7 @@ abbrev μ-loop : tie.MeasureT-loop
 μ-loop s mu m counts lambda₀ x₀ lambda x = s - x
 
 loop-holds : tie.Need-loop-holds Inv-loop μ-loop
-loop-holds c = (omega arith, record { whole = refl; entries = λ y lt. absurd (not-suc-le-zero lt) }, λ y le. zeros 5 y)
+loop-holds c = (omega arith, record { whole = refl; entries = λ y lt. absurd (not-suc-le-zero lt) }, λ y le. getD-zeros 5 y)
 
 mul-copies-for : tie.Need-mul-copies-for Inv-loop μ-loop
 mul-copies-for c = search needs

@@ -15,41 +15,41 @@ use Rattle.lists.proofs.Largest.{largest-le}
 use Rattle.lists.proofs.UpTo.{getD-map-upTo, take-map-upTo}
 use Rattle.crowding.specs.Tails.{Tail, past, leaves, tailsAfter}
 use Rattle.crowding.proofs.TailsFew.{length-after-le}
-use Rattle.crowding.specs.Chains.{rowEnd, tailAt, tailsAt, follow, linked, hits, Ascends, largestAfter, mostAfter}
+use Rattle.crowding.specs.Chains.{rowEnd, tailAt, tailsAt, follow, linked, times, Ascends, largestAfter, mostAfter}
 use Rattle.crowding.proofs.Follow.{length-follow, follow-next}
 use Rattle.crowding.proofs.Rows.{nodesFrom, step, tails-linked}
 use Rattle.crowding.proofs.Walks.{row-start, before-end}
 
 -- the next position, and the last
-pub hits-next : (rows : List ℕ) (v f to : ℕ) → f < to
-    → hits rows v f (to - f) ≡ tally (eqb v (getD rows f 0)) (hits rows v (f + 1) (to - (f + 1)))
-unfolding hits
-hits-next rows v f to lt =
+pub times-next : (rows : List ℕ) (v f to : ℕ) → f < to
+    → times rows v f (to - f) ≡ tally (eqb v (getD rows f 0)) (times rows v (f + 1) (to - (f + 1)))
+unfolding times
+times-next rows v f to lt =
     let e : to - f ≡ suc (to - (f + 1)) = omega arith in
     rw (e, add-one f)
 
-pub hits-end : (rows : List ℕ) (v f to : ℕ) → to ≤ f → hits rows v f (to - f) ≡ 0
-unfolding hits
-hits-end rows v f to h =
+pub times-end : (rows : List ℕ) (v f to : ℕ) → to ≤ f → times rows v f (to - f) ≡ 0
+unfolding times
+times-end rows v f to h =
     let e : to - f ≡ 0 = omega arith in
     rw e
 
-pub hits-le : (rows : List ℕ) (v n f : ℕ) → hits rows v f n ≤ n
-unfolding hits
-hits-le rows v zero f = omega arith
-hits-le rows v (suc n) f =
-    omega (arith, hits-le rows v n (suc f), tally-le-suc (eqb v (getD rows f 0)) (hits rows v (suc f) n))
+pub times-le : (rows : List ℕ) (v n f : ℕ) → times rows v f n ≤ n
+unfolding times
+times-le rows v zero f = omega arith
+times-le rows v (suc n) f =
+    omega (arith, times-le rows v n (suc f), tally-le-suc (eqb v (getD rows f 0)) (times rows v (suc f) n))
 
 -- position f is counted
 pub count-turn : (rows counts : List ℕ) (f to n : ℕ) → f < to → getD rows f 0 < length counts
     → n ≡ getD counts (getD rows f 0) 0 + 1 → (u : ℕ)
-    → getD (set counts (getD rows f 0) n) u 0 + hits rows u (f + 1) (to - (f + 1)) ≡ getD counts u 0 + hits rows u f (to - f)
+    → getD (set counts (getD rows f 0) n) u 0 + times rows u (f + 1) (to - (f + 1)) ≡ getD counts u 0 + times rows u f (to - f)
 count-turn rows counts f to n lt cv en u =
-    rw (hits-next rows u f to lt) (go (eqb u (getD rows f 0)) refl)
+    rw (times-next rows u f to lt) (go (eqb u (getD rows f 0)) refl)
   where
     go : (b : Bool) → eqb u (getD rows f 0) ≡ b
-        → getD (set counts (getD rows f 0) n) u 0 + hits rows u (f + 1) (to - (f + 1))
-        ≡ getD counts u 0 + tally b (hits rows u (f + 1) (to - (f + 1)))
+        → getD (set counts (getD rows f 0) n) u 0 + times rows u (f + 1) (to - (f + 1))
+        ≡ getD counts u 0 + tally b (times rows u (f + 1) (to - (f + 1)))
     go true e =
         let same = eqb-true u (getD rows f 0) e in
         let stored : getD (set counts (getD rows f 0) n) u 0 ≡ n =
@@ -60,13 +60,13 @@ count-turn rows counts f to n lt cv en u =
     go false e = rw (getD-set-other counts (getD rows f 0) u n 0 (eqb-false u (getD rows f 0) e))
 
 -- as many positions are counted as would be linked
-length-linked : (rows : List ℕ) (v n f : ℕ) (found : List ℕ) → length (linked rows v f n found) ≡ hits rows v f n + length found
-unfolding linked hits
+length-linked : (rows : List ℕ) (v n f : ℕ) (found : List ℕ) → length (linked rows v f n found) ≡ times rows v f n + length found
+unfolding linked times
 length-linked rows v zero f found = omega arith
 length-linked rows v (suc n) f found = go (eqb v (getD rows f 0)) (length-linked rows v n (suc f))
   where
-    go : (b : Bool) → ((l : List ℕ) → length (linked rows v (suc f) n l) ≡ hits rows v (suc f) n + length l)
-        → length (linked rows v (suc f) n (cond b (f ∷ found) found)) ≡ tally b (hits rows v (suc f) n) + length found
+    go : (b : Bool) → ((l : List ℕ) → length (linked rows v (suc f) n l) ≡ times rows v (suc f) n + length l)
+        → length (linked rows v (suc f) n (cond b (f ∷ found) found)) ≡ tally b (times rows v (suc f) n) + length found
     go true ih = omega (arith, ih (f ∷ found))
     go false ih = ih found
 
@@ -88,11 +88,11 @@ length-after w v (t ∷ tails) found =
 
 -- the next position of a chain: the nodes of its tail are counted; and the last
 module _ (r : ℕ) (rows : List ℕ) (n : ℕ) (next : List ℕ) (p v : ℕ) where
-  pub chain-hits : 0 < n → Ascends r rows → 0 < r → rowEnd r p ≤ length rows
+  pub chain-times : 0 < n → Ascends r rows → 0 < r → rowEnd r p ≤ length rows
       → length (tailsAfter 0 v (tailsAt r rows (follow n next p)) [])
-      ≡ hits rows v (p + 1) (rowEnd r p - (p + 1)) + length (tailsAfter 0 v (tailsAt r rows (follow (n - 1) next (getD next p 0))) [])
+      ≡ times rows v (p + 1) (rowEnd r p - (p + 1)) + length (tailsAfter 0 v (tailsAt r rows (follow (n - 1) next (getD next p 0))) [])
   unfolding tailsAfter
-  chain-hits some order pos whole =
+  chain-times some order pos whole =
       let k = rowEnd r p - (p + 1) in
       let rest = tailsAt r rows (follow (n - 1) next (getD next p 0)) in
       let start = row-start r p pos in

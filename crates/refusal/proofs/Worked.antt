@@ -1,0 +1,35 @@
+-- The table of refusals read off once more, and cases of what a check says and leaves. Assumes nothing.
+use Prim.Native.Nat.{ℕ}
+use mathlib.Core.Path.{_≡_, refl}
+use mathlib.Core.Bool.{true, false}
+use mathlib.Core.List.{List, [], _∷_}
+use Rattle.refusal.specs.declared.Refusal.the-variants.{Ended, Malformed, WrongKind, OutsideLimits, Trailing, BadRow, Crowded, WrongFigure, NoBlock, ShortWork, ShortOutput, BadOrder}
+use Rattle.refusal.specs.Refusals.{Outcome, result, refusal, refusalOutcome}
+use Rattle.refusal.specs.Checked.{Checked, accepted, refused, _>>=_, require, written, outcome}
+
+-- "returned" and "place", row by row
+pub table : (refusalOutcome (Ended 9) ≡ refusal 1 9)
+    × (refusalOutcome (Malformed 9) ≡ refusal 2 9)
+    × (refusalOutcome WrongKind ≡ refusal 3 0)
+    × (refusalOutcome (OutsideLimits 9) ≡ refusal 4 9)
+    × (refusalOutcome (Trailing 9) ≡ refusal 5 9)
+    × (refusalOutcome (BadRow 9) ≡ refusal 6 9)
+    × (refusalOutcome (Crowded 9) ≡ refusal 7 9)
+    × (refusalOutcome (WrongFigure 9) ≡ refusal 8 9)
+    × (refusalOutcome (BadOrder 2) ≡ refusal 12 2)
+    × (refusalOutcome NoBlock ≡ refusal 9 0)
+    × (refusalOutcome (ShortWork 9) ≡ refusal 10 9)
+    × (refusalOutcome (ShortOutput 9) ≡ refusal 11 9)
+table = (refl, refl, refl, refl, refl, refl, refl, refl, refl, refl, refl, refl)
+
+-- of two tests that fail the first gives the answer
+pub first-refusal : (require false NoBlock >>= (λ u. require false WrongKind)) ≡ refused NoBlock
+first-refusal = refl
+
+pub outcomes : (outcome (λ (n : ℕ). n ∷ []) (accepted 5) ≡ result (5 ∷ []))
+    × (outcome (λ (n : ℕ). n ∷ []) (refused (BadOrder 2)) ≡ refusal 12 2)
+outcomes = (refl, refl)
+
+-- three bytes lent, two written; and a refusal
+pub slices : (written (accepted (1 ∷ 2 ∷ [])) (7 ∷ 8 ∷ 9 ∷ []) ≡ 1 ∷ 2 ∷ 9 ∷ []) × (written (refused NoBlock) (7 ∷ 8 ∷ 9 ∷ []) ≡ 7 ∷ 8 ∷ 9 ∷ [])
+slices = (refl, refl)
