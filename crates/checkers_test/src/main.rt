@@ -14,8 +14,8 @@ struct Verdict {
 }
 
 fn refused(e: Refusal) -> Verdict {
-    let number = refusal_number::number(e);
-    let place = refusal_place::place(e);
+    let number = refusal_code::number(e);
+    let place = refusal_code::place(e);
     Verdict { number, place }
 }
 

@@ -1,4 +1,7 @@
 // The packing test on rows in bytes.
+mod least;
+mod visits;
+
 use packing::Record;
 use packing::RowFound;
 ghost use mathlib.Core.Path.{_≡_};
@@ -19,7 +22,7 @@ fn few_loads(rows: &[u8], c: usize, r: usize, x: usize, bound: usize) -> bool
     if x != 0 {
         return false;
     }
-    rows_load::most_load(rows, c, r, 256) <= bound
+    rows_code::most_load(rows, c, r, 256) <= bound
 }
 
 // Refusal 7 of a layer: the first of c rows of r bytes, all ascending, that holds x+1 nodes which stand together in
@@ -37,7 +40,7 @@ pub fn first_crowded(rows: &[u8], c: usize, r: usize, x: usize, bound: usize) ->
     }
     let mut next = [0u16; 20480];
     let end = c * r;
-    let least = crowding_least::least_crowded(&rows[0..end], c, r, x, bound, &mut next);
+    let least = crate::least::least_crowded(&rows[0..end], c, r, x, bound, &mut next);
     if least < 65536 {
         return RowFound::At(Record(least));
     }

@@ -25,7 +25,7 @@ use Rattle.layers.specs.Layers.{Layer, LayerHead, sizes, allRows, layersAt, fir
 use Rattle.layers.specs.Answers.{rowsAnswer}
 use Rattle.layers.specs.declared.RowsAnswer.{RowsAnswer}
 use Rattle.layers.specs.declared.RowsAnswer.the-variants.{Refused}
-use Rattle.layers_crowding.proofs.CrowdLoop.{Ordered, rowFound-at, rowFound-nothing}
+use Rattle.layers_code.proofs.crowding.CrowdLoop.{Ordered, rowFound-at, rowFound-nothing}
 
 -- the rows' bytes are few
 pub rows-small : {rows r : ℕ} → rows ≤ 4_096 → r ≤ 5 → rows * r ≤ 20_480

@@ -1,4 +1,6 @@
 // Checking the rows of all layers: their length, their order and the packing test.
+mod crowding;
+
 use layers::RowsAnswer;
 use packing::RowFound;
 use refusal::Refusal;
@@ -46,9 +48,9 @@ pub fn check_rows(
     if end < bytes.len() {
         return RowsAnswer::Refused(Refusal::Trailing(end));
     }
-    let bad = rows_order::first_bad(&bytes[at..], rows, r, n);
+    let bad = rows_code::first_bad(&bytes[at..], rows, r, n);
     if let RowFound::At(row) = bad {
         return RowsAnswer::Refused(Refusal::BadRow(at + row.0 * r));
     }
-    layers_crowding::check_layers(bytes, at, r, layers, bound, size)
+    crate::crowding::check_layers(bytes, at, r, layers, bound, size)
 }

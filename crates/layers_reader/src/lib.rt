@@ -1,4 +1,8 @@
 // Reading the two numbers of each layer.
+mod kind;
+
+pub use kind::read_kind;
+pub use kind::refusal_of;
 use layers::HeadsAnswer;
 use layers::LayerRead;
 use layers::LayersRead;
@@ -25,13 +29,13 @@ fn least_size(full: bool, after: usize, room: usize) -> usize
 fn read_layer(bytes: &[u8], at: usize, lo: usize, hi: usize, least: usize, room: usize) -> LayerRead
     ensures { λ r. ⌜ r ≡ layerRead (readLayer lo hi least room (now (bytes .entry)) at) ⌝ }
 {
-    let first = number_within::read_within(bytes, at, lo, hi);
+    let first = number_code::read_within(bytes, at, lo, hi);
     let NumberRead::Value(bound, middle) = first else {
-        return LayerRead::Refused(layers_kind::refusal_of(first));
+        return LayerRead::Refused(crate::kind::refusal_of(first));
     };
-    let second = number_within::read_within(bytes, middle, least, room);
+    let second = number_code::read_within(bytes, middle, least, room);
     let NumberRead::Value(size, next) = second else {
-        return LayerRead::Refused(layers_kind::refusal_of(second));
+        return LayerRead::Refused(crate::kind::refusal_of(second));
     };
     LayerRead::Numbers(bound, size, next)
 }

@@ -30,8 +30,8 @@ fn put_bytes(bytes: &[u8]) {
 
 // Prints the refusal's number and place.
 fn put_refusal(e: Refusal) {
-    put(b" refused ", refusal_number::number(e));
-    put_next(refusal_place::place(e));
+    put(b" refused ", refusal_code::number(e));
+    put_next(refusal_code::place(e));
 }
 
 // Prints the value and the next place.
@@ -75,7 +75,7 @@ fn tell_read(bytes: &[u8], at: usize, r: NumberRead) {
 // The line of a reading.
 fn read(bytes: &[u8], at: usize) {
     say(b"read");
-    tell_read(bytes, at, number_reader::read_number(bytes, at));
+    tell_read(bytes, at, number_code::read_number(bytes, at));
 }
 
 fn put_limits(lo: usize, hi: usize) {
@@ -87,7 +87,7 @@ fn put_limits(lo: usize, hi: usize) {
 fn within(bytes: &[u8], at: usize, lo: usize, hi: usize) {
     put_limits(lo, hi);
     say(b" read");
-    tell_read(bytes, at, number_within::read_within(bytes, at, lo, hi));
+    tell_read(bytes, at, number_code::read_within(bytes, at, lo, hi));
 }
 
 // The start of a writing's line.
@@ -106,7 +106,7 @@ fn put_left(out: &[u8]) {
 // The line of a writing into `out`, with the bytes of `out` afterwards.
 fn write_to(out: &mut [u8], v: usize) {
     put_write(v, out.len());
-    let r = number_writer::write_number(out, v);
+    let r = number_code::write_number(out, v);
     put_written(r);
     put_left(out);
 }

@@ -49,9 +49,9 @@ fn after_r(bytes: &[u8], n: usize, r: usize, at: usize) -> PackCheck
 fn after_n(bytes: &[u8], n: usize, at: usize) -> PackCheck
     ensures { λ check. ⌜ check ≡ packChecked (now (bytes .entry)) (afterN (now (bytes .entry)) n at) ⌝ }
 {
-    let read = number_within::read_within(bytes, at, 2, minmax::smaller(5, n));
+    let read = number_code::read_within(bytes, at, 2, minmax::smaller(5, n));
     let NumberRead::Value(r, next) = read else {
-        return refuse(layers_kind::refusal_of(read));
+        return refuse(layers_reader::refusal_of(read));
     };
     after_r(bytes, n, r, next)
 }
@@ -60,9 +60,9 @@ fn after_n(bytes: &[u8], n: usize, at: usize) -> PackCheck
 fn after_kind(bytes: &[u8], at: usize) -> PackCheck
     ensures { λ check. ⌜ check ≡ packChecked (now (bytes .entry)) (afterKind (now (bytes .entry)) at) ⌝ }
 {
-    let read = number_within::read_within(bytes, at, 2, 255);
+    let read = number_code::read_within(bytes, at, 2, 255);
     let NumberRead::Value(n, next) = read else {
-        return refuse(layers_kind::refusal_of(read));
+        return refuse(layers_reader::refusal_of(read));
     };
     after_n(bytes, n, next)
 }
@@ -74,9 +74,9 @@ fn after_kind(bytes: &[u8], at: usize) -> PackCheck
 pub fn check_pack(bytes: &[u8]) -> PackCheck
     ensures { λ check. ⌜ check ≡ packChecked (now (bytes .entry)) (checkPack (now (bytes .entry))) ⌝ }
 {
-    let read = layers_kind::read_kind(bytes, 1);
+    let read = layers_reader::read_kind(bytes, 1);
     let NumberRead::Value(_, next) = read else {
-        return refuse(layers_kind::refusal_of(read));
+        return refuse(layers_reader::refusal_of(read));
     };
     after_kind(bytes, next)
 }

@@ -1,4 +1,9 @@
 // Checking placements: the kind, n and r, then what follows them.
+mod from_b;
+mod from_s;
+mod refusing;
+mod rows;
+
 use number::NumberRead;
 use placement::PlacementCheck;
 ghost use mathlib.Core.Path.{_≡_};
@@ -12,20 +17,20 @@ fn after_n(bytes: &[u8], n: usize, at: usize) -> PlacementCheck
     requires { ⌜ (2 ≤ n) × (n ≤ 255) ⌝ }
     ensures { λ check. ⌜ check ≡ placementChecked (now (bytes .entry)) (afterN (now (bytes .entry)) n at) ⌝ }
 {
-    let read = number_within::read_within(bytes, at, 2, minmax::smaller(5, n));
+    let read = number_code::read_within(bytes, at, 2, minmax::smaller(5, n));
     let NumberRead::Value(r, next) = read else {
-        return placement_refusal::refuse(layers_kind::refusal_of(read));
+        return crate::refusing::refuse(layers_reader::refusal_of(read));
     };
-    placement_from_s::after_r(bytes, n, r, next)
+    crate::from_s::after_r(bytes, n, r, next)
 }
 
 // The check of a placement from n on, which starts at `at`.
 fn after_kind(bytes: &[u8], at: usize) -> PlacementCheck
     ensures { λ check. ⌜ check ≡ placementChecked (now (bytes .entry)) (afterKind (now (bytes .entry)) at) ⌝ }
 {
-    let read = number_within::read_within(bytes, at, 2, 255);
+    let read = number_code::read_within(bytes, at, 2, 255);
     let NumberRead::Value(n, next) = read else {
-        return placement_refusal::refuse(layers_kind::refusal_of(read));
+        return crate::refusing::refuse(layers_reader::refusal_of(read));
     };
     after_n(bytes, n, next)
 }
@@ -38,9 +43,9 @@ fn after_kind(bytes: &[u8], at: usize) -> PlacementCheck
 pub fn check_placement(bytes: &[u8]) -> PlacementCheck
     ensures { λ check. ⌜ check ≡ placementChecked (now (bytes .entry)) (checkPlacement (now (bytes .entry))) ⌝ }
 {
-    let read = layers_kind::read_kind(bytes, 2);
+    let read = layers_reader::read_kind(bytes, 2);
     let NumberRead::Value(_, next) = read else {
-        return placement_refusal::refuse(layers_kind::refusal_of(read));
+        return crate::refusing::refuse(layers_reader::refusal_of(read));
     };
     after_kind(bytes, next)
 }

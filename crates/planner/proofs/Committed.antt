@@ -14,7 +14,7 @@ use Rattle.placement.specs.Figure.{figureOf}
 use Rattle.placement.specs.Placement.{Placement, GoodPlacement, placementNumbers, placementBytes}
 use Rattle.placement.proofs.Written.{written-file, written-length}
 use Rattle.lists.proofs.Writing.{take-drop-rest, write-part}
-use Rattle.rows.proofs.Written.{givenBack}
+use Rattle.packing.proofs.Written.{givenBack}
 use Rattle.layers.specs.Answers.{arrayHeads}
 use Rattle.split.specs.Splits.{countsSplit}
 use Rattle.planner.specs.Planning.{splitPlacement, outputNeeded, outputAfter}

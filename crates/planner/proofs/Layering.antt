@@ -15,7 +15,7 @@ use Rattle.packing.proofs.Copies.{repeated-rows, length-repeated}
 use Rattle.layers.proofs.Lengths.{length-flatten-rows}
 use Rattle.packing.proofs.RowsAt.{length-rowsAt, rowsAt-lengths}
 use Rattle.lists.proofs.Writing.{take-drop-rest, write-part}
-use Rattle.rows.proofs.Written.{givenBack}
+use Rattle.packing.proofs.Written.{givenBack}
 use Rattle.planner.specs.Writing.{beginning, totalBelow, layerRows, rowsBelow}
 
 pub totalBelow-suc : (array : List ℕ) (x : ℕ) → totalBelow array (suc x) ≡ totalBelow array x + getD array x 0

@@ -1,4 +1,6 @@
 // The checks before planning: refusal 12, then 9, 10 and 11.
+mod limits;
+
 use planner::OrderAnswer;
 use refusal::Refusal;
 ghost use mathlib.Core.Path.{_≡_};
@@ -40,7 +42,7 @@ pub fn check_order(
     ensures { λ answer. ⌜ ((mu blocks : List ℕ)
         → answer ≡ orderAnswer (checkSteps (arrayPack n r mu m blocks) s k b work output)) ⌝ }
 {
-    let limits = planner_limits::check_limits(n, r, s, k, b);
+    let limits = crate::limits::check_limits(n, r, s, k, b);
     let OrderAnswer::Good = limits else {
         return limits;
     };

@@ -1,4 +1,8 @@
 // Writing a split's placement: the head, then each layer's rows.
+mod head;
+mod lambdas;
+mod rows;
+
 use planner::PlanAnswer;
 ghost use mathlib.Core.Path.{_≡_};
 ghost use Prim.Native.Nat.{_+_, _*_, _≤_};
@@ -29,10 +33,10 @@ pub fn write_placement(
         × (now (out .exit)
         ≡ outputAfter (accepted (countsPlacement (arrayPack n r mu m (now (blocks .entry))) s k b counts)) (now (out .entry))) ⌝ }
 {
-    let lambda = planner_lambdas::lambdas(mu, m, counts, s);
+    let lambda = crate::lambdas::lambdas(mu, m, counts, s);
     let figure = placement_figure::figure_of(s, k, b, lambda, counts);
-    let at = planner_head::write_head(out, n, r, s, k, b, figure, lambda, counts);
-    planner_layers::write_layers(&mut out[at..], blocks, r, s, m, counts);
+    let at = crate::head::write_head(out, n, r, s, k, b, figure, lambda, counts);
+    crate::rows::write_layers(&mut out[at..], blocks, r, s, m, counts);
     PlanAnswer::Planned {
         length: at + b * r,
         figure,

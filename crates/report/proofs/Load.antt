@@ -11,7 +11,7 @@ use Rattle.lists.proofs.UpTo.{map-upTo-congr}
 use Rattle.lists.proofs.Totals.{total-count-eqb}
 use Rattle.packing.specs.Rows.{ascending, inOrder, Row}
 use Rattle.packing.specs.Load.{load}
-use Rattle.rows.proofs.Load.{count-of-rows}
+use Rattle.packing.proofs.Load.{count-of-rows}
 use Rattle.layers.proofs.Lengths.{length-flatten-rows}
 
 row-below : (n r : ℕ) (row : List ℕ) → Row n r row → All (λ v. v < n) row

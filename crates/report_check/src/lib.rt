@@ -1,4 +1,6 @@
 // The reply of the program `check`, put into a slice that a caller lends.
+mod line;
+
 ghost use mathlib.Core.Path.{_≡_};
 ghost use lib.ListN.{length};
 ghost use Rattle.refusal.specs.Checked.{written};
@@ -16,6 +18,6 @@ pub fn check_reply(input: &[u8], out: &mut [u8]) -> Reply
     if out.len() < 200 {
         return Reply::Refused(Refusal::ShortOutput(200));
     }
-    let length = report_check_line::check_line(input, out);
+    let length = crate::line::check_line(input, out);
     Reply::Written(length)
 }

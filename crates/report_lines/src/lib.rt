@@ -1,4 +1,9 @@
 // The lines that the programs print, of a refusal and of an accepted placement.
+mod decimal;
+mod mean;
+mod numbers;
+
+pub use mean::mean_load;
 ghost use mathlib.Core.List.{[], _∷_, _++_};
 ghost use Prim.Native.Nat.{_≤_};
 ghost use lib.ListN.{length};
@@ -11,10 +16,10 @@ pub fn refused_line(out: &mut [u8], e: Refusal) -> usize
     requires { ⌜ 200 ≤ length (now out) ⌝ }
     ensures { λ r. ⌜ Replied (refusedLine e) r (now (out .entry)) (now (out .exit)) ⌝ }
 {
-    let number = refusal_number::number(e);
-    let place = refusal_place::place(e);
+    let number = refusal_code::number(e);
+    let place = refusal_code::place(e);
     let numbers = [number, place];
-    report_numbers::line(out, b"refused", &numbers)
+    crate::numbers::line(out, b"refused", &numbers)
 }
 
 // Puts the line of an accepted placement at the start of `out`, and answers its length.
@@ -32,5 +37,5 @@ pub fn accepted_line(
         (now (out .entry)) (now (out .exit)) ⌝ }
 {
     let numbers = [figure, b, k, n, most, mean];
-    report_numbers::line(out, b"accepted", &numbers)
+    crate::numbers::line(out, b"accepted", &numbers)
 }

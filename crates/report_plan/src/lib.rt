@@ -1,4 +1,7 @@
 // The reply of the program `plan`, put into slices that a caller lends.
+mod input;
+mod reader;
+
 ghost use mathlib.Core.Path.{_≡_};
 ghost use lib.ListN.{length};
 ghost use Rattle.refusal.specs.Checked.{written};
@@ -22,6 +25,6 @@ pub fn plan_reply(input: &[u8], work: &mut [u16], out: &mut [u8]) -> Reply
     if out.len() < 20_544 {
         return Reply::Refused(Refusal::ShortOutput(20_544));
     }
-    let length = report_plan_input::plan_input(input, work, out);
+    let length = crate::input::plan_input(input, work, out);
     Reply::Written(length)
 }

@@ -1,4 +1,6 @@
 // The counts of the named split, chosen with a table of least losses in the working slice.
+mod count;
+
 ghost use mathlib.Core.Path.{_≡_};
 ghost use Prim.Native.Nat.{suc, _*_, _≤_};
 ghost use lib.ListN.{length, drop};
@@ -30,7 +32,11 @@ pub fn choose_counts(
     while 0 < x {
         let from = x * w;
         let end = from + w;
-        let c = split_count::best_count(&work[from..end], split_steps::steps(mu, m, s, k, x), left);
+        let c = crate::count::best_count(
+            &work[from..end],
+            split_table::steps(mu, m, s, k, x),
+            left,
+        );
         counts[x] = c;
         left -= c;
         x -= 1;

@@ -1,14 +1,18 @@
 // The row walk: a placement's rows, one after the other. A walk is opened here; its step and its rows are passed on.
+mod place;
+mod rows;
+mod stepping;
+
+pub use place::opened_place;
 use placement::PlacementAnswer;
+pub use rows::has_row;
+pub use rows::moved;
+pub use rows::row_at;
+pub use stepping::Stepped;
+pub use stepping::Walk;
+pub use stepping::step;
 use walk::Cursor;
 use walk::WalkOpened;
-pub use walk_place::opened_place;
-pub use walk_rows::has_row;
-pub use walk_rows::moved;
-pub use walk_rows::row_at;
-pub use walk_step::Stepped;
-pub use walk_step::Walk;
-pub use walk_step::step;
 ghost use mathlib.Core.Path.{_≡_};
 ghost use Rattle.walk.specs.RowWalk.{openWalk, walkOpened, openedPlace};
 

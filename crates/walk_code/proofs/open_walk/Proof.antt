@@ -45,24 +45,24 @@ use denote.Triple.Clauses.{ensured, lasts}
 use Rattle.walk.specs.RowWalk.{openWalk, walkOpened, openedPlace}
 use Rattle.walk.specs.declared.Cursor.{Cursor}
 use Rattle.walk.specs.declared.WalkOpened.{WalkOpened}
-use Rattle.walk_step.specs.declared.Walk.{Walk}
+use Rattle.walk_code.specs.declared.stepping.Walk.{Walk}
 use Rattle.walk_code.specs.declared.OpenedWalk.{OpenedWalk}
 use Rattle.walk.proofs.Cursor as P
 use Rattle.walk.proofs.Cursor.Laws as P′
 use Rattle.walk.proofs.WalkOpened as E
 use Rattle.walk.proofs.WalkOpened.Laws as E′
-use Rattle.walk_step.proofs.Walk as T
-use Rattle.walk_step.proofs.Walk.Laws as T′
+use Rattle.walk_code.proofs.stepping.Walk as T
+use Rattle.walk_code.proofs.stepping.Walk.Laws as T′
 use Rattle.walk_code.proofs.OpenedWalk as O
 use Rattle.walk_code.proofs.OpenedWalk.Laws as O′
 use Rattle.walk_code.proofs.opened as opened
 use Rattle.walk_code.proofs.opened.Symbol as opened-def
 use Rattle.walk_code.proofs.opened.Symbol.{name as #walk-code·opened}
 use Rattle.walk_code.proofs.opened.Met as opened-thm
-use Rattle.walk_place.proofs.opened_place as place
-use Rattle.walk_place.proofs.opened_place.Symbol as place-def
-use Rattle.walk_place.proofs.opened_place.Symbol.{name as #walk-place·opened-place}
-use Rattle.walk_place.proofs.opened_place.Met as place-thm
+use Rattle.walk_code.proofs.place.opened_place as place
+use Rattle.walk_code.proofs.place.opened_place.Symbol as place-def
+use Rattle.walk_code.proofs.place.opened_place.Symbol.{name as #walk-place·opened-place}
+use Rattle.walk_code.proofs.place.opened_place.Met as place-thm
 use Rattle.walk_code.proofs.open_walk.Key.{name as #walk-code·open-walk}
 use Rattle.walk_code.proofs.open_walk as open-walk
 use Rattle.walk_code.proofs.open_walk.Statement as stated
@@ -265,5 +265,5 @@ open-walk-spec 𝓤 H 𝓜 𝓖 𝓡 =
     (open-walk-meets 𝓤 H (𝓖 .A) (givenOf 𝓤 H 𝓜 𝓖) (𝓜 .mem) (𝓡 .run) (tablesOf 𝓤 H 𝓜 (tables 𝓤 H 𝓜 𝓡 code.env))
     (cited 𝓤 H (Opened 𝓤 H (𝓖 .A) (𝓜 .mem) (𝓡 .run)) 𝓜 𝓡 code.env #walk-code·opened opened-def.routine code.calls-walk-code·opened
     (opened-thm.met 𝓤 H 𝓜 𝓖 𝓡))
-    (cited 𝓤 H (OpenedPlace 𝓤 H (𝓖 .A) (𝓜 .mem) (𝓡 .run)) 𝓜 𝓡 code.env #walk-place·opened-place place-def.routine code.calls-walk-place·opened-place
+    (cited 𝓤 H (OpenedPlace 𝓤 H (𝓖 .A) (𝓜 .mem) (𝓡 .run)) 𝓜 𝓡 code.env #walk-place·opened-place place-def.routine code.calls-walk-code·place·opened-place
     (place-thm.met 𝓤 H 𝓜 𝓖 𝓡)))

@@ -1,0 +1,21 @@
+-- `layers_reader::kind::refusal_of` meets its contract: each arm is a case of `refusalOf`. Assumes nothing.
+use borrow.Author.Needs.{needs}
+use mathlib.Core.Path.{sym, ap}
+use Rattle.layers.specs.Answers.{refusalOf}
+use Rattle.layers_reader.proofs.kind.refusal_of.Statement.{statement}
+use Rattle.layers_reader.proofs.kind.refusal_of.Tie as tie
+
+enum-known-read : tie.Need-enum-known-read
+enum-known-read c = search needs
+
+enum-known-read-2 : tie.Need-enum-known-read-2
+enum-known-read-2 c = search needs
+
+returns : tie.Need-returns
+returns c = sym (ap refusalOf (c .before .read .given .1))
+
+returns-2 : tie.Need-returns-2
+returns-2 c = search needs
+
+pub refusal-of-spec : {M : Type 1} → statement M
+refusal-of-spec = tie.close (tie.spec enum-known-read enum-known-read-2 returns returns-2)

@@ -1,0 +1,116 @@
+-- `number_code::reader::read_number` meets its contract. The loop's invariant: the groups that are left to read answer for the whole
+-- number, and what they add fits. The measure is how many groups may come. Assumes nothing.
+use native.Mathlib.Omega.{arith}
+use mathlib.Core.Logic.{⊎-elim}
+use lib.ListN.{getD}
+use borrow.Author.Needs.{needs}
+use borrow.Author.Tests.{ltb-true, ltb-false}
+use Rattle.number_code.proofs.reader.ReadLoop.{Turn, TurnFits, turn-holds, turn-none, turn-ends, turn-zero-last, turn-last, turn-again, turn-fits}
+use Rattle.number_code.proofs.reader.read_number.Statement.{statement}
+use Rattle.number_code.proofs.reader.read_number.Tie as tie
+
+abbrev Inv-loop : tie.InvT-loop
+Inv-loop bytes at left₀ place₀ weight₀ sum₀ left place weight sum = Turn bytes at left place weight sum
+
+abbrev μ-loop : tie.MeasureT-loop
+μ-loop bytes at left₀ place₀ weight₀ sum₀ left place weight sum = left
+
+last-fits : (c : tie.Joined3 Inv-loop μ-loop)
+    → let l = c .before .before .before .before .before .loop in
+    TurnFits (l .weight) (getD (c .before .before .before .before .before .before .args .bytes .now) (l .place) 0)
+last-fits c =
+    let l = c .before .before .before .before .before .loop in
+    turn-fits _ _ _ _ _ _ (l .inv) (omega arith) _
+    (c .before .before .shared-slice-known .given (l .place) .fits)
+
+more-fits : (c : tie.Else2 Inv-loop μ-loop)
+    → let l = c .before .before .before .before .loop in
+    TurnFits (l .weight) (getD (c .before .before .before .before .before .args .bytes .now) (l .place) 0)
+more-fits c =
+    let l = c .before .before .before .before .loop in
+    turn-fits _ _ _ _ _ _ (l .inv) (omega arith) _
+    (c .before .shared-slice-known .given (l .place) .fits)
+
+loop-holds : tie.Need-loop-holds Inv-loop μ-loop
+loop-holds c = turn-holds _ _
+
+returns : tie.Need-returns Inv-loop μ-loop
+returns c = turn-ends _ _ _ _ _ _ (c .before .before .loop .inv) (omega arith) (omega arith)
+
+shared-slice-read-byte : tie.Need-shared-slice-read-byte Inv-loop μ-loop
+shared-slice-read-byte c = search needs
+
+cast-byte : tie.Need-cast-byte Inv-loop μ-loop
+cast-byte c = omega (arith, c .shared-slice-known .given (c .before .before .before .loop .place))
+
+returns-2 : tie.Need-returns-2 Inv-loop μ-loop
+returns-2 c =
+    let l = c .before .before .before .before .before .before .loop in
+    turn-zero-last _ _ _ _ _ _ (l .inv) (omega arith) (omega arith) (omega arith)
+    (omega (arith, ltb-true))
+
+mul-t17 : tie.Need-mul-t17 Inv-loop μ-loop
+mul-t17 c = omega (arith, last-fits c)
+
+add-t18 : tie.Need-add-t18 Inv-loop μ-loop
+add-t18 c = omega (arith, last-fits c)
+
+add-t19 : tie.Need-add-t19 Inv-loop μ-loop
+add-t19 c = search needs
+
+returns-3 : tie.Need-returns-3 Inv-loop μ-loop
+returns-3 c =
+    let l = c .before .before .before .before .before .loop in
+    turn-last _ _ _ _ _ _ (l .inv) (omega arith) (omega arith) (omega arith)
+    (⊎-elim (λ w. omega (arith, ltb-false)) (λ w. omega arith) (c .if3 .came))
+
+mul-sum : tie.Need-mul-sum Inv-loop μ-loop
+mul-sum c = omega (arith, more-fits c)
+
+add-sum : tie.Need-add-sum Inv-loop μ-loop
+add-sum c = omega (arith, more-fits c)
+
+mul-weight : tie.Need-mul-weight Inv-loop μ-loop
+mul-weight c = omega (arith, more-fits c)
+
+add-place : tie.Need-add-place Inv-loop μ-loop
+add-place c = search needs
+
+sub-left : tie.Need-sub-left Inv-loop μ-loop
+sub-left c = search needs
+
+loop-less : tie.Need-loop-less Inv-loop μ-loop
+loop-less c = search needs
+
+loop-again : tie.Need-loop-again Inv-loop μ-loop
+loop-again c =
+    let l = c .before .before .before .before .loop in
+    turn-again _ _ _ _ _ _ (l .inv) (omega arith) (omega arith) (omega arith)
+    (c .before .shared-slice-known .given (l .place) .fits)
+
+returns-4 : tie.Need-returns-4 Inv-loop μ-loop
+returns-4 c = turn-none _ _ _ _ _ _ (c .before .loop .inv) (omega arith)
+
+pub read-number-spec : {M : Type 1} → statement M
+read-number-spec =
+    tie.close
+    (tie.spec
+    Inv-loop
+    μ-loop
+    loop-holds
+    returns
+    shared-slice-read-byte
+    cast-byte
+    returns-2
+    mul-t17
+    add-t18
+    add-t19
+    returns-3
+    mul-sum
+    add-sum
+    mul-weight
+    add-place
+    sub-left
+    loop-less
+    loop-again
+    returns-4)

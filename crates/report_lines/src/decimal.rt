@@ -1,0 +1,21 @@
+// A number in decimal, put into a slice that a caller lends.
+ghost use mathlib.Core.Path.{_≡_};
+ghost use Prim.Native.Nat.{_+_, _≤_};
+ghost use lib.ListN.{length};
+ghost use lib.Seq.{sets};
+ghost use Rattle.report.specs.Programs.{decimal};
+
+// Puts `n` in decimal at `at`, and answers the place after it.
+pub(crate) fn put_decimal(out: &mut [u8], at: usize, n: usize) -> usize
+    requires { ⌜ at + length (decimal n) ≤ length (now out) ⌝ }
+    ensures { λ r. ⌜ (r ≡ at + length (decimal n))
+        × (now (out .exit) ≡ sets (now (out .entry)) at (decimal n)) ⌝ }
+{
+    if n < 10 {
+        out[at] = (48 + n) as u8;
+        return at + 1;
+    }
+    let last = put_decimal(out, at, n / 10);
+    out[last] = (48 + n % 10) as u8;
+    last + 1
+}

@@ -1,4 +1,0 @@
-pub mod Places
-pub mod Blocks
-pub mod Written
-pub mod Load

@@ -1,0 +1,163 @@
+-- `split_code::count::best_count` meets its contract. The loop's invariant: the counts up to `c` were looked at. Assumes nothing.
+use Prim.Native.Nat.{_+_, _*_, _-_, _≤_}
+use native.Mathlib.Nat.{le-mul-of-pos-right}
+use mathlib.Core.Path.{_≡_, refl, ap, _∙_}
+use lib.ListN.{getD}
+use Rattle.split.specs.Splits.{lastLeast}
+use Rattle.split.specs.Table.{stepSum}
+use Rattle.split.proofs.LayerSteps.{copies-lt, records-lt}
+use Rattle.split_code.proofs.count.Counting.{Counted, counted-none, counted-more, counted-taken, counted-left}
+use native.Mathlib.Omega.{arith}
+use Rattle.split_code.proofs.count.best_count.Statement.{statement}
+use Rattle.split_code.proofs.count.best_count.Tie as tie
+
+abbrev Inv-loop : tie.InvT-loop
+Inv-loop below left size each copy lost best₀ least₀ copies₀ paid₀ c₀ best least copies paid c =
+    Counted (record { size = size; each = each; copy = copy; lost = lost }) below left best least copies paid c
+
+abbrev μ-loop : tie.MeasureT-loop
+μ-loop below left size each copy lost best₀ least₀ copies₀ paid₀ c₀ best least copies paid c =
+    left - c + (left - copies)
+
+mul-least : tie.Need-mul-least Inv-loop μ-loop
+mul-least c = omega arith
+
+shared-slice-read-least : tie.Need-shared-slice-read-least Inv-loop μ-loop
+shared-slice-read-least c = omega arith
+
+cast-least : tie.Need-cast-least Inv-loop μ-loop
+cast-least c = let s = c .before .before in let h = s .pre .1 .marked (s .args .left) in omega arith
+
+loop-holds : tie.Need-loop-holds Inv-loop μ-loop
+loop-holds c = let s = c .before .before in counted-none (s .args .u) (s .args .below .now) (s .args .left) _ refl
+
+mul-if1 : tie.Need-mul-if1 Inv-loop μ-loop
+mul-if1 c =
+    let h = c .before .loop .inv .needed in
+    let g = c .before .before .before .before .pre .0 .size-le in
+    record { fits = omega arith }
+
+add-copies : tie.Need-add-copies Inv-loop μ-loop
+add-copies c = let h = c .before .before .loop .inv .few in omega arith
+
+mul-paid : tie.Need-mul-paid Inv-loop μ-loop
+mul-paid c =
+    let s = c .before .before .before .before .before in
+    let h = c .before .before .loop .inv .few in
+    record { fits = copies-lt (s .args .u) (s .pre .0) _ (omega arith) }
+
+div-paid : tie.Need-div-paid Inv-loop μ-loop
+div-paid c = c .before .before .before .before .before .pre .0 .lost-pos
+
+loop-less : tie.Need-loop-less Inv-loop μ-loop
+loop-less c =
+    let s = c .before .before .before .before .before in
+    let l = c .before .before .loop in
+    let h : l .copies ≤ l .copies * s .args .u .size = le-mul-of-pos-right (l .copies) (s .pre .0 .size-pos) in
+    omega (arith, c .if1 .taken)
+
+loop-again : tie.Need-loop-again Inv-loop μ-loop
+loop-again c =
+    let s = c .before .before .before .before .before in
+    let l = c .before .before .loop in
+    counted-more (s .args .u) (s .args .below .now) (s .args .left) (s .pre .0 .size-pos) (l .best) (l .least) (l .copies)
+    (l .paid) (l .c) (l .inv) (c .before .loop-test .taken) (c .if1 .taken)
+
+add-c : tie.Need-add-c Inv-loop μ-loop
+add-c c = omega arith
+
+mul-smaller : tie.Need-mul-smaller Inv-loop μ-loop
+mul-smaller c =
+    let s = c .before .before .before .before .before in
+    record { fits = let h = records-lt (s .args .u) (s .pre .0) (c .before .before .loop .c + 1) (omega arith) in omega arith }
+
+smaller-requires : tie.Need-smaller-requires Inv-loop μ-loop
+smaller-requires c κs = tt
+
+sub-loss : tie.Need-sub-loss Inv-loop μ-loop
+sub-loss c = omega arith
+
+mul-loss : tie.Need-mul-loss Inv-loop μ-loop
+mul-loss c = omega arith
+
+shared-slice-read-loss : tie.Need-shared-slice-read-loss Inv-loop μ-loop
+shared-slice-read-loss c = omega arith
+
+cast-loss : tie.Need-cast-loss Inv-loop μ-loop
+cast-loss c =
+    let s = c .before .before .before .before .before .before .before in
+    let h = s .pre .1 .marked (s .args .left - (c .before .before .before .before .loop .c + 1)) in
+    omega arith
+
+add-loss : tie.Need-add-loss Inv-loop μ-loop
+add-loss c =
+    let s = c .before .before .before .before .before .before .before in
+    let l = c .before .before .before .before .loop in
+    let h = s .pre .1 .marked (s .args .left - (l .c + 1)) in
+    let g = records-lt (s .args .u) (s .pre .0) (l .c + 1) (omega arith) in
+    omega (arith, c .before .smaller .ensures)
+
+loop-less-2 : tie.Need-loop-less-2 Inv-loop μ-loop
+loop-less-2 c = omega arith
+
+loop-again-2 : tie.Need-loop-again-2 Inv-loop μ-loop
+loop-again-2 c =
+    let s = c .before .before .before .before .before .before .before .before in
+    let l = c .before .before .before .before .before .loop in
+    counted-taken (s .args .u) (s .args .below .now) (s .args .left) (s .pre .0 .size-pos) (l .best) (l .least) (l .copies)
+    (l .paid) (l .c) (l .inv) (c .before .before .before .before .loop-test .taken)
+    (c .before .before .smaller .result + getD (s .args .below .now) (s .args .left - (l .c + 1)) 0)
+    (let h = l .inv .held in omega (arith, c .before .before .before .if1 .left))
+    (ap (λ n. n + getD (s .args .below .now) (s .args .left - (l .c + 1)) 0) (c .before .before .smaller .ensures))
+    (omega (arith, c .if2 .taken))
+
+loop-less-3 : tie.Need-loop-less-3 Inv-loop μ-loop
+loop-less-3 c = omega arith
+
+loop-again-3 : tie.Need-loop-again-3 Inv-loop μ-loop
+loop-again-3 c =
+    let s = c .before .before .before .before .before .before .before .before in
+    let l = c .before .before .before .before .before .loop in
+    counted-left (s .args .u) (s .args .below .now) (s .args .left) (s .pre .0 .size-pos) (l .best) (l .least) (l .copies)
+    (l .paid) (l .c) (l .inv) (c .before .before .before .before .loop-test .taken)
+    (c .before .before .smaller .result + getD (s .args .below .now) (s .args .left - (l .c + 1)) 0)
+    (let h = l .inv .held in omega (arith, c .before .before .before .if1 .left))
+    (ap (λ n. n + getD (s .args .below .now) (s .args .left - (l .c + 1)) 0) (c .before .before .smaller .ensures))
+    (omega (arith, c .if2 .left))
+
+returns : tie.Need-returns Inv-loop μ-loop
+returns c =
+    let s = c .before .before .before .before in
+    let l = c .before .loop in
+    let e : l .c ≡ s .args .left = let h = l .inv .within in omega arith in
+    l .inv .scan .last-least ∙ ap (lastLeast (stepSum (s .args .u) (s .args .below .now) (s .args .left))) e
+
+pub best-count-spec : {M : Type 1} → statement M
+best-count-spec =
+    tie.close
+    (tie.spec
+    Inv-loop
+    μ-loop
+    mul-least
+    shared-slice-read-least
+    cast-least
+    loop-holds
+    mul-if1
+    add-copies
+    mul-paid
+    div-paid
+    loop-less
+    loop-again
+    add-c
+    mul-smaller
+    smaller-requires
+    sub-loss
+    mul-loss
+    shared-slice-read-loss
+    cast-loss
+    add-loss
+    loop-less-2
+    loop-again-2
+    loop-less-3
+    loop-again-3
+    returns)
