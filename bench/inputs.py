@@ -14,7 +14,7 @@ from pathlib import Path
 REPOSITORY = Path(__file__).resolve().parent.parent
 sys.path.insert(0, str(REPOSITORY / "reference"))
 from document01 import check_pack, check_reply, figure  # noqa: E402
-from vectors import NINE, P, numbers, order  # noqa: E402
+from cases import NINE, P, numbers, order  # noqa: E402
 
 NODES = 255
 MOST = 4096

@@ -1,4 +1,4 @@
-"""Runs the baseline's programs on every vector of the independent implementation and compares the replies byte for byte.
+"""Runs the baseline's programs on the inputs of reference/cases.py and compares the replies byte for byte.
 
     python3 bench/test_baseline.py
 
@@ -6,22 +6,22 @@ Needs the baseline built (bench/README.md).
 """
 import subprocess
 import sys
-import tempfile
 from pathlib import Path
 
 REPOSITORY = Path(__file__).resolve().parent.parent
+sys.path.insert(0, str(REPOSITORY / "reference"))
+
+from cases import check_inputs, plan_inputs  # noqa: E402
+from document01 import check_reply, plan_reply  # noqa: E402
+
 PROGRAMS = REPOSITORY / "bench" / "baseline" / "target" / "release"
 VECTORS = {"check": "check", "check_sorted": "check", "plan": "plan", "plan_candidates": "plan"}
 
 
-def vectors(path):
-    """The pairs of input and reply in a file of vectors."""
-    data, at, parts = path.read_bytes(), 0, []
-    while at < len(data):
-        size = int.from_bytes(data[at:at + 4], "little")
-        parts.append(data[at + 4:at + 4 + size])
-        at += 4 + size
-    return list(zip(parts[::2], parts[1::2]))
+def pairs_of_replies():
+    """The pairs of input and reply of each program."""
+    return {"check": [(data, check_reply(data)) for data in check_inputs()],
+            "plan": [(data, plan_reply(data)) for data in plan_inputs()]}
 
 
 def differences(program, pairs):
@@ -32,15 +32,13 @@ def differences(program, pairs):
 
 
 def main():
-    wrong = 0
-    with tempfile.TemporaryDirectory() as folder:
-        subprocess.run([sys.executable, REPOSITORY / "reference" / "vectors.py", folder], check=True)
-        for program, kind in VECTORS.items():
-            pairs = vectors(Path(folder) / f"{kind}.vectors")
-            found = list(differences(PROGRAMS / program, pairs))
-            print(f"{program}: {len(pairs) - len(found)} of {len(pairs)} replies agree")
-            print("".join(line + "\n" for line in found[:10]), end="")
-            wrong += len(found)
+    wrong, replies = 0, pairs_of_replies()
+    for program, kind in VECTORS.items():
+        pairs = replies[kind]
+        found = list(differences(PROGRAMS / program, pairs))
+        print(f"{program}: {len(pairs) - len(found)} of {len(pairs)} replies agree")
+        print("".join(line + "\n" for line in found[:10]), end="")
+        wrong += len(found)
     return 1 if wrong else 0
 
 

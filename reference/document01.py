@@ -3,6 +3,7 @@
 Written from document 01 alone, with brute force where it can. Standard library only.
 """
 from collections import Counter
+from functools import lru_cache
 from itertools import combinations, product
 from math import comb
 from operator import add
@@ -231,6 +232,14 @@ def plan(data, s, k, b, work=None, output=None):
         raise Refused(10, s * (b + 1))
     if output is not None and output < 64 + b * r:
         raise Refused(11, 64 + b * r)
+    return planned(data, s, k, b)
+
+
+@lru_cache(maxsize=16)
+def planned(data, s, k, b):
+    """The same of an order that is not refused."""
+    pack = check_pack(data)
+    n, r, layers = pack["n"], pack["r"], pack["layers"]
     counts = named_split(layers, s, k, b)
     heads = [(least_copies(c, len(layers[x][1])) * layers[x][0], c) for x, c in enumerate(counts)]
     f = figure(s, k, b, heads)

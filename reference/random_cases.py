@@ -1,46 +1,43 @@
 """Fresh random cases, run through the built programs and compared with the independent implementation's replies.
 
-    python3 reference/random_cases.py SEED COUNT CHECK PLAN
+    python3 reference/random_cases.py [COUNT [SEED]]
 
-COUNT cases in all: orders on random packs for `plan`, some damaged, and the placements they give for `check`, some damaged.
+COUNT cases in all (2,000 where none is said): orders on random packs for `plan`, some damaged, and the placements they give for
+`check`, some damaged. The seed is fresh at each run and printed first, so that a run can be repeated. The programs are those
+that `rt check` builds, target/bin/check_main and target/bin/plan_main.
 """
 import random
-import subprocess
+import secrets
 import sys
-from collections import Counter
+from pathlib import Path
 
-from document01 import check_reply, plan_reply
-from run_vectors import kind
-from vectors import damaged, order, random_order, random_pack
+from cases import damaged, order, random_order, random_pack, renumbered
+from programs import Programs
 
-
-def cases(seed):
-    draw = random.Random(seed)
-    while True:
-        n, r, pack = random_pack(draw, most=draw.choice([4, 6, 12]), extra=draw.choice([2, 1, -1]))
-        data = order(*random_order(draw, n, r, draw.choice([8, 40]))) + pack
-        yield "plan", data
-        yield "plan", damaged(draw, data)
-        placement = plan_reply(data)
-        if not placement.startswith(b"refused"):
-            yield "check", placement
-            yield "check", damaged(draw, placement)
-            yield "check", damaged(draw, placement)
+BUILT = Path(__file__).resolve().parent.parent / "target" / "bin"
 
 
-def main(seed, count, check, plan):
-    programs = {"check": (check, check_reply), "plan": (plan, plan_reply)}
-    seen, wrong = Counter(), 0
-    for _, (name, data) in zip(range(int(count)), cases(int(seed))):
-        program, expect = programs[name]
-        expected = expect(data)
-        reply = subprocess.run([program], input=data, stdout=subprocess.PIPE, check=True).stdout
-        seen[name + " " + kind(expected)] += 1
-        if reply != expected:
-            wrong += 1
-            print(f"{name} {data.hex()}: expected {expected[:60]!r}, got {reply[:60]!r}")
-    print(f"seed {seed}: {sum(seen.values())} cases, {wrong} wrong;", dict(sorted(seen.items())))
-    sys.exit(1 if wrong else 0)
+def run_some(programs, draw):
+    """An order and its placement, and the same damaged."""
+    n, r, pack = random_pack(draw, most=draw.choice([4, 6, 12]), extra=draw.choice([2, 1, -1]))
+    s, k, b = random_order(draw, n, r, draw.choice([8, 40, 400]))
+    data = order(s, k, b) + pack
+    placement = programs.run("plan", data)
+    programs.run("plan", damaged(draw, data))
+    if not placement.startswith(b"refused"):
+        programs.run("check", placement)
+        programs.run("check", damaged(draw, placement))
+        programs.run("check", damaged(draw, placement))
+        programs.run("check", renumbered(placement, draw.choice([6, 7 + 2 * draw.randrange(s)]), draw.choice([-1, 1])))
+
+
+def main(count=2_000, seed=None):
+    seed = int(seed) if seed else secrets.randbelow(10 ** 9)
+    print(f"seed {seed}", flush=True)
+    draw, programs = random.Random(seed), Programs(BUILT / "check_main", BUILT / "plan_main")
+    while sum(programs.seen.values()) < int(count):
+        run_some(programs, draw)
+    sys.exit(programs.tell())
 
 
 if __name__ == "__main__":

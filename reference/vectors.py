@@ -1,191 +1,277 @@
-"""Makes the vectors: inputs of `check` and `plan` with the replies that document01.py gives.
+"""Makes the vectors of every call: its input, numbers and lent slices, and what document01.py says that it answers and leaves.
 
-    python3 reference/vectors.py FOLDER
+    python3 reference/vectors.py FOLDER        writes FOLDER/stdin, which vectors_test reads, and FOLDER/stdout
+    python3 reference/vectors.py FOLDER N      shows the N-th call too
 
-writes FOLDER/check.vectors and FOLDER/plan.vectors. A vector is the input's length (four bytes, lowest first), the input,
-the reply's length and the reply. Nothing here depends on the time or the machine: two runs write the same files.
+Two runs write the same files.
 """
 import random
 import sys
+from itertools import product
 from pathlib import Path
 
-from document01 import (LARGEST, check_placement, check_reply, first_crowded, number_bytes, numbers, plan_reply,
-                        read_number)
-from limits import largest_orders, largest_placements
+sys.path.insert(0, str(Path(__file__).resolve().parent.parent / "packings"))
 
-ROWS = "012 345 012 034 056 135 146 236 245".split()
-P = bytes([1, 7, 3, 1, 2, 1, 7, 1, 0]) + bytes(int(d) for row in ROWS for d in row)
-NINE = bytes([2, 7, 3, 2, 3, 9, 5, 1, 2, 1, 7]) + bytes(int(d) for row in ROWS for d in row)
+import document01 as reference  # noqa: E402
+from cases import NINE, P, check_inputs, plan_inputs, random_rows  # noqa: E402
+from check_packings import pack_bytes  # noqa: E402
+from constructions import catalogue  # noqa: E402
+from document01 import LARGEST, Refused, numbers  # noqa: E402
+from script import FILLS, LARGEST_64, Script, answer  # noqa: E402
 
-
-def order(s, k, b):
-    return numbers(s, k, b)
-
-
-def least_bound(rows, x, bound=1):
-    while first_crowded(rows, x, bound) is not None:
-        bound += 1
-    return bound
+# What the calls behind the programs ask for: room for any line, and what the largest order needs.
+LINE_ROOM, WORK_MOST, OUTPUT_MOST = 200, 5 * 4_097, 64 + 4_096 * 5
 
 
-def random_rows(draw, n, r, most):
-    return [tuple(sorted(draw.sample(range(n), r))) for _ in range(draw.randint(0, most))]
+# --- one call each
+
+def layer_numbers(layers):
+    return [v for bound, rows in layers for v in (bound, len(rows))]
 
 
-def random_pack(draw, most=6, extra=0):
-    """A pack whose bounds are as small as its rows allow, `extra` more (or less) in some layers."""
-    n = draw.choice([2, 3, 4, 5, 6, 7, 8, 9, 12, 20, 254, 255])
-    r = draw.randint(2, min(5, n))
-    layers = [random_rows(draw, n, r, draw.choice([0, 0, 1, most])) for _ in range(r)]
-    head = []
-    for x, rows in enumerate(layers):
-        head += [max(1, least_bound(rows, x) + draw.choice([0, extra])), len(rows)]
-    return n, r, numbers(1, n, r, *head) + bytes(v for rows in layers for row in rows for v in row)
+def pack_values(data):
+    pack = reference.check_pack(data)
+    return [pack["n"], pack["r"], 0, 0, 0, 0, pack["at"]] + layer_numbers(pack["layers"])
 
 
-def random_order(draw, n, r, most=12):
-    s = draw.randint(1, r)
-    k = draw.randint(s, n - 1) if s <= n - 1 else s
-    return s, k, draw.randint(1, most)
+def placement_values(data):
+    placement = reference.check_placement(data)
+    return [placement[name] for name in ("n", "r", "s", "k", "b", "F", "at")] + layer_numbers(placement["layers"])
 
 
-def damaged(draw, data):
-    """The same bytes with one of a few kinds of damage."""
-    at = draw.randrange(len(data))
-    kind = draw.randrange(6)
-    if kind == 0:
-        return data[:at]
-    if kind == 1:
-        return data + bytes([draw.randrange(256)])
-    if kind == 2:
-        return data[:at] + bytes([draw.randrange(256)]) + data[at + 1:]
-    if kind == 3:
-        return data[:at] + bytes([(data[at] + draw.choice([1, 255])) % 256]) + data[at + 1:]
-    if kind == 4:
-        return data[:at] + data[at + 1:]
-    return data[:at] + bytes([draw.choice([0, 127, 128, 255])]) + data[at:]
+def call_check_pack(script):
+    script.call("check_pack", [], answer(pack_values, script.input))
 
 
-def renumbered(data, index, change):
-    """The same placement with head number `index` changed by `change`."""
-    at = 0
-    for _ in range(index + 1):
-        start = at
-        value, at = read_number(data, at)
-    return data[:start] + number_bytes(max(0, value + change)) + data[at:]
+def call_check_placement(script):
+    script.call("check_placement", [], answer(placement_values, script.input))
 
 
-def edge_placements():
-    """Both sides of each limit of a placement's head; the rows are those of one layer."""
-    def file(n=7, r=3, s=2, k=3, b=1, figure=None, heads=None, row=(0, 1, 2), kind=2, tail=b""):
-        heads = [(0, 0), (1, b)] if heads is None else heads
-        figure = b - min(b, 3) if figure is None else figure
-        flat = [v for head in heads for v in head]
-        return numbers(kind, n, r, s, k, b, figure, *flat) + bytes(row) * b + tail
-    yield from (b"", numbers(2), numbers(3), numbers(1, 7, 3), bytes([128, 0]), bytes([128] * 4), bytes([255] * 3))
-    for n in (0, 1, 2, 3, 254, 255, 256, 16_383, 16_384, LARGEST):
-        yield file(n=n)
-        yield file(n=n, r=2, s=2, k=1, row=(0, 1))
-        yield file(n=n, k=n - 1 if n else 0, figure=0)
-        yield file(n=n, k=n, figure=0)
-    for r in range(0, 8):
-        yield file(r=r, row=tuple(range(r)))
-    for s in range(0, 6):
-        yield file(s=s, k=6)
-        yield file(s=s, k=s, heads=[(1, 0)] * max(s - 1, 0) + [(1, 1)])
-    for k in (0, 1, 2, 3, 5, 6, 7, 8, 127, 128):
-        yield file(k=k, figure=0)
-    for figure in (0, 1, 2, 127, 128):
-        yield file(figure=figure)
-    for bound in (0, 1, 16_777_215, 16_777_216, 16_777_217, LARGEST):
-        yield file(heads=[(0, 0), (bound, 1)], figure=0 if bound else 1)
-        yield file(heads=[(bound, 1), (0, 0)], figure=0 if bound else 1)
-    for heads in ([(0, 0), (1, 0)], [(0, 1), (1, 1)], [(1, 1), (0, 0)], [(0, 2), (1, 0)], [(0, 0), (1, 2)]):
-        yield file(heads=heads, figure=0)
-    for row in ((0, 1, 1), (2, 1, 0), (0, 1, 7), (4, 5, 6), (0, 0, 0), (5, 6, 255), (0, 2, 1)):
-        yield file(row=row)
-    for tail in (b"\0", b"\1\2"):
-        yield file(tail=tail)
-    for b in (0, 1, 2, 127, 128, 4_095, 4_096, 4_097):
-        rows = min(b, 4_096)
-        yield file(b=b, heads=[(0, 0), (rows, b)], figure=max(rows - min(rows, rows * 3), 0))
+def call_read(script, at):
+    script.call("read_number", [at], answer(reference.read_number, script.input, at))
 
 
-def check_vectors():
-    draw = random.Random(2311)
-    yield NINE
-    yield P
-    for at in range(len(NINE)):
-        yield NINE[:at]
-        for step in (1, 127, 128, 255):
-            yield NINE[:at] + bytes([(NINE[at] + step) % 256]) + NINE[at + 1:]
-    yield from edge_placements()
-    yield from largest_placements()
-    made = 0
-    while made < 500:
-        n, r, pack = random_pack(draw, extra=1)
-        reply = plan_reply(order(*random_order(draw, n, r)) + pack)
-        if reply.startswith(b"refused"):
+def call_read_within(script, at, lo, hi):
+    script.call("read_within", [at, lo, hi], answer(reference.read_within, script.input, at, lo, hi))
+
+
+def call_write(script, v, room):
+    out = bytearray(room)
+    given = answer(lambda: [reference.write_number(out, v)])
+    script.call("write_number", [v], given, room=room, written=b"" if given[0] else bytes(out[:given[1]]))
+
+
+def call_crowded(script, c, r, x, bound):
+    rows = [tuple(script.input[i * r:(i + 1) * r]) for i in range(c)]
+    row = reference.first_crowded(rows, x, bound)
+    script.call("first_crowded", [c, r, x, bound], [0, 0] if row is None else [0, 1, row])
+
+
+def call_plan(script, s, k, b, work, room):
+    try:
+        out, figure, counts = reference.plan(script.input, s, k, b, work, room)
+    except Refused as e:
+        script.call("plan", [s, k, b], [e.number, e.place], room=room, work=work)
+        return None
+    script.call("plan", [s, k, b], [0, len(out), figure, *counts], room=room, written=out, work=work, free=s * (b + 1))
+    return out
+
+
+def call_walk(script, more=0):
+    """The walk to its end, and two more steps."""
+    try:
+        rows = reference.walk(script.input)
+    except Refused as e:
+        script.call("row_walk", [], [e.number, e.place], room=more)
+        return
+    at, r, b, end = reference.check_placement(script.input)["at"], len(rows[0]), len(rows), len(script.input)
+    script.call("row_walk", [], [0, at, r, b, b, b * r, end, 0, 0], room=b * r + more, written=b"".join(rows))
+
+
+def reply_kind(reply):
+    """The number in the line of a refusal, 0 for any other reply."""
+    return int(reply.split()[1]) if reply.startswith(b"refused ") else 0
+
+
+def call_check_reply(script, room=LINE_ROOM):
+    if room < LINE_ROOM:
+        script.call("check_reply", [], [11, LINE_ROOM], room=room)
+        return
+    reply = reference.check_reply(script.input)
+    script.call("check_reply", [], [0, len(reply)], reply_kind(reply), room, reply)
+
+
+def call_plan_reply(script, work=WORK_MOST, room=OUTPUT_MOST):
+    if work < WORK_MOST or room < OUTPUT_MOST:
+        refusal = [10, WORK_MOST] if work < WORK_MOST else [11, OUTPUT_MOST]
+        script.call("plan_reply", [], refusal, room=room, work=work)
+        return
+    reply = reference.plan_reply(script.input)
+    kind, free = reply_kind(reply), 0
+    if not kind:
+        s, k, b, _ = read_order(script.input)
+        free = s * (b + 1)
+    script.call("plan_reply", [], [0, len(reply)], kind, room, reply, work, free)
+
+
+def read_order(data):
+    """s, k, b and the place of the pack."""
+    order, at = [], 0
+    for _ in range(3):
+        v, at = reference.read_number(data, at)
+        order.append(v)
+    return *order, at
+
+
+# --- the vectors
+
+def number_vectors(script):
+    alphabet = (0, 1, 5, 127, 128, 172, 255)
+    for size in range(5):
+        for data in product(alphabet, repeat=size):
+            script.read(bytes(data))
+            call_read(script, 0)
+    for data in ([255, 255, 255, 127, 7], [255, 255, 255, 255, 1], [5, 172, 2, 7], [5, 128], [5, 128, 0], [5]):
+        script.read(bytes(data))
+        for at in (0, 1, 2, 3, 4, 5, 6, 2 ** 31, LARGEST_64):
+            call_read(script, at)
+    for data in ([172, 2], [5, 172, 2], [128, 0], [128], [], [0], [255, 255, 255, 127]):
+        script.read(bytes(data))
+        for at in (0, 1):
+            for lo, hi in ((0, 300), (0, 299), (300, 400), (301, 400), (300, 300), (2, 299), (5, 9), (0, 0), (1, 5), (6, 4),
+                           (0, LARGEST), (LARGEST, LARGEST_64), (0, LARGEST - 1)):
+                call_read_within(script, at, lo, hi)
+    edges = [v + d for v in (2 ** 7, 2 ** 14, 2 ** 21, 2 ** 28) for d in (-1, 0, 1)]
+    for v in [0, 1, 300, *edges, 2 ** 31, LARGEST_64]:
+        for room in range(7):
+            for _ in FILLS:
+                call_write(script, v, room)
+
+
+def small_files(script):
+    """Document 01's pack and placement: whole, cut short at every length, and with every byte changed to every other value."""
+    for data, call, other in ((P, call_check_pack, call_check_placement), (NINE, call_check_placement, call_check_pack)):
+        script.read(data)
+        other(script)
+        for n in range(len(data) + 1):
+            script.part(0, n)
+            call(script)
+        for at, byte in enumerate(data):
+            for v in range(256):
+                if v != byte:
+                    script.change(at, v)
+                    call(script)
+            script.change(at, byte)
+
+
+def placement_vectors(script):
+    for i, data in enumerate(check_inputs()):
+        script.read(data)
+        call_check_placement(script)
+        call_check_reply(script, LINE_ROOM + i % 3)
+        if len(data) < 3_000 or i % 4 == 0:
+            call_walk(script, i % 3)
+    for room in (0, 1, LINE_ROOM - 1):
+        call_check_reply(script, room)
+
+
+def plan_edges(script, s, k, b, r):
+    """Lent slices that are just long enough, longer, and one short."""
+    work, room = s * (b + 1), 64 + b * r
+    for less, short in ((1, 0), (0, 1), (1, 1), (work, room)):
+        call_plan(script, s, k, b, max(work - less, 0), max(room - short, 0))
+    call_plan(script, s, k, b, work + 3, room + 5)
+
+
+def plan_vectors(script):
+    for i, data in enumerate(plan_inputs()):
+        script.read(data)
+        call_plan_reply(script, WORK_MOST + i % 2, OUTPUT_MOST + i % 3)
+        try:
+            s, k, b, at = read_order(data)
+        except Refused:
             continue
-        made += 1
-        yield reply
-        for _ in range(2):
-            yield damaged(draw, reply)
-        s = check_placement(reply)["s"]
-        yield renumbered(reply, draw.choice([6, 7 + 2 * draw.randrange(s)]), draw.choice([-1, 1]))
+        script.part(at, len(data))
+        call_check_pack(script)
+        call_plan(script, s, k, b, min(s * (b + 1), WORK_MOST), min(64 + b * 5, OUTPUT_MOST))
+        if i % 5 == 0 and b < 100 and not answer(pack_values, script.input)[0]:
+            plan_edges(script, s, k, b, reference.check_pack(script.input)["r"])
+    script.read(numbers(2, 3, 9) + P)
+    for work, room in ((0, 0), (WORK_MOST - 1, OUTPUT_MOST - 1), (WORK_MOST - 1, OUTPUT_MOST), (WORK_MOST, OUTPUT_MOST - 1)):
+        call_plan_reply(script, work, room)
+    script.read(P)
+    for order in ((LARGEST_64, 3, 9), (2, LARGEST_64, 9), (2, 3, LARGEST_64), (0, 0, 0), (3, 6, 9), (4, 6, 9), (3, 7, 9)):
+        call_plan(script, *order, 0, 0)
+    for s, k, b in ((2, 3, 9), (3, 4, 7), (1, 6, 1), (3, 3, 40)):
+        plan_edges(script, s, k, b, 3)
+    script.read(NINE)
+    call_plan(script, 2, 3, 9, 0, 0)
 
 
-def edge_plans():
-    for s in range(0, 6):
-        yield order(s, 3, 9) + P
-    for k in range(0, 9):
-        yield order(2, k, 9) + P
-    for b in (0, 1, 2, 7, 8, 9, 127, 128, 4_095, 4_096, 4_097, LARGEST):
-        yield order(2, 3, b) + P
-    yield from (b"", bytes([2]), bytes([2, 3]), bytes([2, 3, 9]), bytes([128, 0, 3, 9]) + P, bytes([2, 128, 0, 9]) + P,
-                bytes([2, 3, 128, 0]) + P, bytes([2, 3, 255, 255, 255, 255]) + P)
-    blockless = numbers(1, 3, 2, 1, 0, 1, 1) + bytes([0, 1])
-    for s in (1, 2):
-        yield order(s, 2, 5) + blockless
-    for mu in (0, 1, 4_096, 4_097):
-        yield order(1, 1, 4_096) + numbers(1, 3, 2, mu, 1, 1, 0) + bytes([0, 1])
-        yield order(2, 2, 4_096) + numbers(1, 3, 2, 1, 0, mu, 1) + bytes([0, 1])
-    for m in (0, 1, 2, 4_095, 4_096, 4_097):
-        yield order(2, 2, 300) + numbers(1, 3, 2, 4_096, m, 4_096, 0) + bytes([0, 2]) * min(m, 4_096)
-        yield order(2, 2, 300) + numbers(1, 3, 2, 4_096, m, 4_096, 1) + bytes([0, 2]) * (m + 1)
-    for n in (1, 2, 254, 255, 256):
-        yield order(1, 1, 3) + numbers(1, n, 2, 1, 1, 1, 0) + bytes([0, 1])
-    for at in range(len(P) + 1):
-        yield order(2, 3, 9) + P[:at]
+def grouped_rows():
+    """4,096 rows of five nodes. Row i has a node of each of five groups of 50: with a, b, c the digits of i to base 17, lowest
+    first, group k's is 50 k + (a + k b + k² c) mod 17. So three nodes determine the row, and every three stand together in one
+    row at most; but row 4,095 has three nodes of row 4,090 and two of its own."""
+    def node(i, k):
+        return 50 * k + (i % 17 + k * (i // 17 % 17) + k * k * (i // 289)) % 17
+    rows = [[node(i, k) for k in range(5)] for i in range(4_095)]
+    return rows + [rows[4_090][:3] + [50 * k + 20 for k in (3, 4)]]
 
 
-def plan_vectors():
-    draw = random.Random(4097)
-    for s, k, b in [(2, 2, 7), (2, 3, 7), (2, 3, 9), (2, 2, 9), (3, 4, 7), (2, 2, 1)]:
-        yield order(s, k, b) + P
-    yield from edge_plans()
-    yield from largest_orders()
-    for _ in range(600):
-        n, r, pack = random_pack(draw, most=draw.choice([6, 20]), extra=draw.choice([2, 2, -1]))
-        s, k, b = random_order(draw, n, r, 40)
-        yield order(s, k, b) + pack
-        if draw.random() < 0.5:
-            yield order(s, k, b) + damaged(draw, pack)
-        if draw.random() < 0.2:
-            yield order(draw.randint(0, r + 1), draw.randint(0, n), draw.choice([0, b, 4_097])) + pack
+def crowding_vectors(script):
+    script.read(bytes(v for row in grouped_rows() for v in row))
+    for c, x, bound in ((4_096, 2, 1), (4_096, 2, 2), (4_095, 2, 1), (4_096, 1, 16), (4_096, 1, 15), (300, 1, 1), (4_096, 0, 241),
+                        (4_096, 0, 240), (4_096, 0, 256), (4_096, 4, 0), (4_096, 4, 1), (4_096, 3, 1), (0, 0, 0), (1, 4, 0),
+                        (4_096, 4, LARGEST_64), (4_095, 0, 4_095)):
+        call_crowded(script, c, 5, x, bound)
+    draw = random.Random(51)
+    for _ in range(150):
+        n = draw.choice([5, 6, 7, 9, 20, 255, 256])
+        r = draw.randint(1, 5)
+        rows = random_rows(draw, n, r, draw.choice([1, 4, 12, 60]))
+        script.read(bytes(v for row in rows for v in row) + bytes(draw.randint(0, 2)))
+        for x in range(r):
+            for bound in {0, 1, draw.randint(0, 4)}:
+                call_crowded(script, len(rows), r, x, bound)
+        call_crowded(script, len(rows) // 2, r, r - 1, 0)
 
 
-def write(path, inputs, reply):
-    with open(path, "wb") as out:
-        for data in inputs:
-            answer = reply(data)
-            out.write(len(data).to_bytes(4, "little") + data + len(answer).to_bytes(4, "little") + answer)
+def published_orders(n, r, x):
+    """Two orders with s = x+1 and one with the largest s."""
+    yield x + 1, x + 1, n
+    yield x + 1, min(x + 3, n - 1), 2 * n + 1
+    yield r, min(r + 1, n - 1), min(n, 100)
 
 
-def main(folder):
-    write(Path(folder) / "check.vectors", check_vectors(), check_reply)
-    write(Path(folder) / "plan.vectors", plan_vectors(), plan_reply)
+def published_vectors(script):
+    for _, _, n, r, x, rows in catalogue():
+        data, placements = pack_bytes(n, r, x, rows), []
+        script.read(data)
+        call_check_pack(script)
+        for s, k, b in published_orders(n, r, x):
+            placements.append(call_plan(script, s, k, b, s * (b + 1), 64 + b * r))
+        for placement in placements:
+            script.read(placement)
+            call_check_placement(script)
+            call_check_reply(script)
+            call_walk(script)
+
+
+def script_of_all():
+    script = Script()
+    for vectors in (number_vectors, small_files, placement_vectors, plan_vectors, crowding_vectors, published_vectors):
+        vectors(script)
+    return script
+
+
+def main(folder, index=None):
+    script = script_of_all()
+    (Path(folder) / "stdin").write_bytes(script.file)
+    (Path(folder) / "stdout").write_text("".join(script.lines()))
+    if index:
+        name, own, data, given = script.calls[int(index) - 1]
+        print(f"{name} {own} on {len(data)} bytes {data.hex()} is to answer {given}")
 
 
 if __name__ == "__main__":
-    main(sys.argv[1])
+    main(*sys.argv[1:])

@@ -3,14 +3,15 @@
 ghost use Prim.Native.Nat.{_≤_};
 ghost use lib.ListN.{length};
 ghost use Rattle.report.specs.Programs.{checkLine};
-ghost use Rattle.report.specs.Replies.{Replied};
+ghost use Rattle.report.specs.Replies.{lineNeeded, Replied};
 use libc::STDIN_FILENO;
 use libc::STDOUT_FILENO;
+use report::LINE_NEEDED;
 use report::Reply;
 
-// Puts what is printed for the input at the start of `out`, and answers its length: a slice of 200 bytes is never refused.
+// Puts what is printed for the input at the start of `out`, and answers its length: such a slice is never refused.
 fn reply(input: &[u8], out: &mut [u8]) -> usize
-    requires { ⌜ 200 ≤ length (now out) ⌝ }
+    requires { ⌜ lineNeeded ≤ length (now out) ⌝ }
     ensures { λ r. ⌜ Replied (checkLine (now (input .entry))) r (now (out .entry)) (now (out .exit)) ⌝ }
 {
     let Reply::Written(length) = report_check::check_reply(input, out) else {
@@ -21,7 +22,7 @@ fn reply(input: &[u8], out: &mut [u8]) -> usize
 
 // Prints the line for the input.
 fn answer(input: &[u8]) {
-    let mut out = [0u8; 200];
+    let mut out = [0u8; LINE_NEEDED];
     let length = reply(input, &mut out);
     io::write_all(STDOUT_FILENO, &out[0..length]);
 }

@@ -13,7 +13,7 @@ use Rattle.lists.proofs.Tests.{T-true, true-T, and-left, and-right, and-both}
 use Rattle.lists.proofs.Alls.{all-of, all-append, all-imp, all-map, all-both, all-every, getD-all}
 use Rattle.lists.proofs.Counts.{count-le-length, count-mono}
 use Rattle.lists.proofs.Largest.{largest-le}
-use Rattle.lists.proofs.Finds.{firstWhere-none, any-none}
+use Rattle.lists.proofs.Finds.{firstWhere-none, some-firstWhere, any-none}
 use Rattle.lists.proofs.UpTo.{getD-map-upTo}
 use Rattle.packing.specs.Rows.{ascending, inOrder, rowsAt, member, together, holds, subsets, crowded, firstCrowded}
 use Rattle.packing.specs.Load.{load, most}
@@ -21,7 +21,6 @@ use Rattle.packing.specs.Answers.{rowFound}
 use Rattle.packing.specs.declared.RowFound.the-variants.{At, Nothing}
 use Rattle.packing.proofs.RowsAt.{all-rowsAt}
 use Rattle.crowding.specs.Tails.{rowNumber, fewLoads}
-use Rattle.crowding.proofs.First.{Below, first-below}
 use Rattle.crowding.proofs.TailSets.{GoodFrom}
 
 -- a set with a node stands together in no more rows than hold the node
@@ -63,13 +62,13 @@ pub found-row : (n : ℕ) (o : Option ℕ) → n ≡ rowNumber o → n < 65536 �
 found-row n none e h = absurd (omega arith)
 found-row n (some j) e h = rw e
 
-pub found-none : (n m : ℕ) (o : Option ℕ) → n ≡ rowNumber o → 65536 ≤ n → Below m o → m ≤ 65536 → Nothing ≡ rowFound o
-found-none n m none e h b l = refl
-found-none n m (some j) e h b l = absurd (omega arith)
+pub found-none : (n : ℕ) (o : Option ℕ) → n ≡ rowNumber o → 65536 ≤ n → ((j : ℕ) → o ≡ some j → j < 65536) → Nothing ≡ rowFound o
+found-none n none e h below = refl
+found-none n (some j) e h below = absurd (omega (arith, below j refl))
 
-pub first-crowded-below : (x bound : ℕ) (rows : List (List ℕ)) → Below (length rows) (firstCrowded x bound rows)
+pub first-crowded-below : (x bound : ℕ) (rows : List (List ℕ)) (j : ℕ) → firstCrowded x bound rows ≡ some j → j < length rows
 unfolding firstCrowded
-first-crowded-below x bound rows = first-below (crowded x bound rows) rows
+first-crowded-below x bound rows j e = some-firstWhere (crowded x bound rows) rows [] j e .within
 
 -- the rows of bytes that are ascending are good
 pub good-rows : (r c : ℕ) (l : List ℕ) → ((i : ℕ) → getD l i 0 < 256) → All (λ row. T (ascending 0 row)) (rowsAt r c l)

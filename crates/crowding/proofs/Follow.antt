@@ -76,7 +76,7 @@ follow-front n next p f lt h =
 -- position f of node v is linked
 module _ (heads counts next : List ℕ) (f v n : ℕ) (hv : v < length heads) (cv : v < length counts) (lt : f < length next)
     (en : n ≡ getD counts v 0 + 1) where
-  pub chain-link : (u : ℕ) → All (λ q. q ≡ f → ⊥) (chain heads counts next u)
+  chain-link : (u : ℕ) → All (λ q. q ≡ f → ⊥) (chain heads counts next u)
       → chain (set heads v f) (set counts v n) (set next f (getD heads v 0)) u
       ≡ cond (eqb u v) (f ∷ chain heads counts next u) (chain heads counts next u)
   chain-link u h = go (eqb u v) refl
@@ -103,7 +103,7 @@ at-most-set counts v n cv m k h mk nk u = go (eqb u v) refl
     go false e = rw (getD-set-other counts v u n 0 (eqb-false u v e)) (omega (arith, h u))
 
 -- the next position of those to be linked, and the last
-pub linked-next : (rows : List ℕ) (v f to : ℕ) (found : List ℕ) → f < to
+linked-next : (rows : List ℕ) (v f to : ℕ) (found : List ℕ) → f < to
     → linked rows v f (to - f) found ≡ linked rows v (f + 1) (to - (f + 1)) (cond (eqb v (getD rows f 0)) (f ∷ found) found)
 unfolding linked
 linked-next rows v f to found lt =

@@ -5,7 +5,7 @@ use mathlib.Core.List.{List, [], _∷_}
 use native.Mathlib.Nat.{mul-le-mul-right, sub-zero, div-lt-iff-lt-mul}
 use native.Mathlib.Numerals.{add-one}
 use native.Mathlib.Omega.{arith}
-use lib.ListN.{length, getD, take, drop}
+use lib.ListN.{length, take, drop}
 use lib.Seq.{drop-drop}
 use Rattle.lists.specs.Lists.{All}
 use Rattle.lists.proofs.Alls.{all-imp}
@@ -14,17 +14,17 @@ use Rattle.crowding.specs.Tails.{Tail, tailsAfter, rowTails}
 use Rattle.crowding.specs.Chains.{tailsAt, chain, Outside, Apart, Ascends, AtMost, Fresh, AllChained, Linked}
 use Rattle.crowding.proofs.Follow.{chain-empty}
 use Rattle.crowding.proofs.Rows.{in-row, nodesFrom, step}
-use Rattle.crowding.proofs.Walks.{chain-elim, chain-tails, chain-placed}
+use Rattle.crowding.proofs.RowLinks.{RowLinked, chain-elim, chain-tails, chain-placed, chain-longer}
 
 -- the tails of the rows from row i on, which begins at `start`
 abbrev tailsFrom : (rows : List ℕ) (r c i start : ℕ) → List Tail
 tailsFrom rows r c i start = rowTails i (rowsAt r (c - i) (drop start rows))
 
 -- the level when the rows before row i are linked; `goal` is what comes of it
-abbrev pub Root : (r w c : ℕ) (rows : List ℕ) (goal : ℕ → List Tail) (heads counts next : List ℕ) (i start : ℕ) → Type 0
-Root r w c rows goal heads counts next i start =
-    AllChained r rows heads counts next × ((u : ℕ) → All (λ q. q < start) (chain heads counts next u))
-    × ((u : ℕ) → tailsAfter w u (tailsFrom rows r c i start) (tailsAt r rows (chain heads counts next u)) ≡ goal u)
+pub record Root (r w c : ℕ) (rows : List ℕ) (goal : ℕ → List Tail) (heads counts next : List ℕ) (i start : ℕ) : Type 0 where
+  pub chained : AllChained r rows heads counts next
+  pub earlier : (u : ℕ) → All (λ q. q < start) (chain heads counts next u)
+  pub grown : (u : ℕ) → tailsAfter w u (tailsFrom rows r c i start) (tailsAt r rows (chain heads counts next u)) ≡ goal u
 
 tails-from-next : (rows : List ℕ) (r c i start : ℕ) → i < c
     → tailsFrom rows r c i start ≡ record { row = i; nodes = take r (drop start rows) } ∷ tailsFrom rows r c (i + 1) (start + r)
@@ -37,76 +37,71 @@ tails-from-next rows r c i start lt =
 pub row-whole : (r c : ℕ) (rows : List ℕ) (i : ℕ) → length rows ≡ c * r → i < c → (i + 1) * r ≤ length rows
 row-whole r c rows i all lt = omega (arith, mul-le-mul-right {m = i + 1} {n = c} r (omega arith))
 
-module _ (r w c : ℕ) (rows : List ℕ) where
-  pub root-start : (heads counts next : List ℕ) → AtMost 0 counts
-      → Root r w c rows (λ u. tailsAfter w u (rowTails 0 (rowsAt r c rows)) []) heads counts next 0 0
-  root-start heads counts next none = (
-    λ u. rw (chain-empty heads counts next u (none u)) (tt, tt),
-    λ u. rw (chain-empty heads counts next u (none u)) tt,
-    λ u. rw (chain-empty heads counts next u (none u), sub-zero c),
-  )
+pub root-start : {r w c : ℕ} {rows heads counts next : List ℕ} → AtMost 0 counts
+    → Root r w c rows (λ u. tailsAfter w u (rowTails 0 (rowsAt r c rows)) []) heads counts next 0 0
+root-start {c = c} {heads = heads} {counts = counts} {next = next} none = record {
+  chained = λ u. rw (chain-empty heads counts next u (none u)) (tt, tt);
+  earlier = λ u. rw (chain-empty heads counts next u (none u)) tt;
+  grown = λ u. rw (chain-empty heads counts next u (none u), sub-zero c);
+}
 
-  pub root-end : (goal : ℕ → List Tail) (heads counts next : List ℕ) (i start : ℕ) → c ≤ i
-      → Root r w c rows goal heads counts next i start → (u : ℕ) → tailsAt r rows (chain heads counts next u) ≡ goal u
+module _ {r w c : ℕ} {rows : List ℕ} {goal : ℕ → List Tail} {heads counts next : List ℕ} {i start : ℕ}
+    (root : Root r w c rows goal heads counts next i start) where
+  pub root-end : c ≤ i → (u : ℕ) → tailsAt r rows (chain heads counts next u) ≡ goal u
   unfolding rowsAt rowTails tailsAfter
-  root-end goal heads counts next i start h root u =
+  root-end h u =
       let e : c - i ≡ 0 = omega arith in
-      rw e at (root .2 u)
+      rw e at (root .grown u)
 
-  module _ (pos : 0 < r) (order : Ascends r rows) (all : length rows ≡ c * r) (i start : ℕ) (lt : i < c) (at : start ≡ i * r)
-      (goal : ℕ → List Tail) (heads counts next : List ℕ) (root : Root r w c rows goal heads counts next i start) where
-    whole : (i + 1) * r ≤ length rows
-    whole = row-whole r c rows i all lt
+  pub root-fresh : Fresh start (start + r - w) heads counts next
+  root-fresh u =
+      all-imp (λ q. q < start) (Outside start (start + r - w)) (λ q lt le. absurd (omega arith)) (chain heads counts next u)
+      (root .earlier u)
 
-    pub root-fresh : Fresh start (start + r - w) heads counts next
-    root-fresh u =
-        all-imp (λ q. q < start) (Outside start (start + r - w)) (λ q lt le. absurd (omega arith)) (chain heads counts next u) (root .1 u)
-
-    module _ (heads′ counts′ next′ : List ℕ) (link : Linked rows start (start + r - w - start) heads counts next heads′ counts′ next′) where
-      pub link-row : Linked rows start ((i + 1) * r - w - start) heads counts next heads′ counts′ next′
-      link-row =
+  -- row i is linked
+  module _ (pos : 0 < r) (order : Ascends r rows) (all : length rows ≡ c * r) (more : i < c) (at : start ≡ i * r)
+      (heads′ counts′ next′ : List ℕ) (link : Linked rows start (start + r - w - start) heads counts next heads′ counts′ next′) where
+    linked : RowLinked rows r w i start heads counts next heads′ counts′ next′
+    linked = record {
+      whole = row-whole r c rows i all more;
+      order = order;
+      after = omega arith;
+      within = omega arith;
+      link =
           let e : start + r ≡ (i + 1) * r = omega arith in
-          rw e at link
+          rw e at link;
+    }
 
-      after : i * r ≤ start
-      after = omega arith
+    -- a position before the row is in another row
+    apart : (q s : ℕ) → start ≤ q → q < (i + 1) * r → s < start → s / r ≡ q / r → ⊥
+    apart q s le lt before e =
+        let row = in-row rows r i (linked .whole) order q (omega arith) lt in
+        let less : s / r < i = div-lt-iff-lt-mul {k = r} {x = s} {y = i} pos .1 (omega arith) in
+        omega arith
 
-      within : start ≤ (i + 1) * r
-      within = omega arith
+    on : (u : ℕ) → All (λ q. q < start + r) (chain heads counts next u)
+    on u = all-imp (λ q. q < start) (λ q. q < start + r) (λ q lt. omega arith) (chain heads counts next u) (root .earlier u)
 
-      either : (P : List ℕ → Type 0) (u : ℕ) → P (chain heads counts next u)
-          → ((q : ℕ) → start ≤ q → q < (i + 1) * r → getD rows q 0 ≡ u → P (q ∷ chain heads counts next u))
-          → P (chain heads′ counts′ next′ u)
-      either = chain-elim rows r w i start whole order after within heads counts next heads′ counts′ next′ link-row
+    same : (u : ℕ) → step w u i (nodesFrom rows start ((i + 1) * r - start)) (tailsAt r rows (chain heads counts next u))
+        ≡ step w u i (take r (drop start rows)) (tailsAt r rows (chain heads counts next u))
+    same u =
+        let e : (i + 1) * r - start ≡ r = omega arith in
+        rw e
 
-      -- a position before the row is in another row
-      earlier : (q s : ℕ) → start ≤ q → q < (i + 1) * r → s < start → s / r ≡ q / r → ⊥
-      earlier q s le lt before e =
-          let row = in-row rows r i whole order q (omega arith) lt in
-          let less : s / r < i = div-lt-iff-lt-mul {k = r} {x = s} {y = i} pos .1 (omega arith) in
-          omega arith
+    pub root-next : Root r w c rows goal heads′ counts′ next′ (i + 1) (start + r)
+    unfolding tailsAfter
+    root-next = record {
+      chained = λ u. (
+        chain-placed linked u (root .chained u .0),
+        chain-elim linked (Apart r) u (root .chained u .1)
+            (λ q le lt e.
+            (all-imp (λ s. s < start) (λ s. s / r ≡ q / r → ⊥) (λ s. apart q s le lt) (chain heads counts next u) (root .earlier u), root .chained u .1)),
+      );
+      earlier = λ u. chain-elim linked (All (λ q. q < start + r)) u (on u) (λ q le lt e. (omega arith, on u));
+      grown = λ u. ap (tailsAfter w u (tailsFrom rows r c (i + 1) (start + r))) (chain-tails linked u ∙ same u)
+          ∙ ap (λ (ts : List Tail). tailsAfter w u ts (tailsAt r rows (chain heads counts next u))) (sym (tails-from-next rows r c i start more))
+          ∙ root .grown u;
+    }
 
-      on : (u : ℕ) → All (λ q. q < start + r) (chain heads counts next u)
-      on u = all-imp (λ q. q < start) (λ q. q < start + r) (λ q lt. omega arith) (chain heads counts next u) (root .1 u)
-
-      same : (u : ℕ) → step w u i (nodesFrom rows start ((i + 1) * r - start)) (tailsAt r rows (chain heads counts next u))
-          ≡ step w u i (take r (drop start rows)) (tailsAt r rows (chain heads counts next u))
-      same u =
-          let e : (i + 1) * r - start ≡ r = omega arith in
-          rw e
-
-      pub root-next : Root r w c rows goal heads′ counts′ next′ (i + 1) (start + r)
-      unfolding tailsAfter
-      root-next = (
-        λ u. (
-          chain-placed rows r w i start whole order after within heads counts next heads′ counts′ next′ link-row u (root .0 u .0),
-          either (Apart r) u (root .0 u .1)
-              (λ q le lt e.
-              (all-imp (λ s. s < start) (λ s. s / r ≡ q / r → ⊥) (λ s. earlier q s le lt) (chain heads counts next u) (root .1 u), root .0 u .1)),
-        ),
-        λ u. either (All (λ q. q < start + r)) u (on u) (λ q le lt e. (omega arith, on u)),
-        λ u. ap (tailsAfter w u (tailsFrom rows r c (i + 1) (start + r)))
-            (chain-tails rows r w i start whole order after within heads counts next heads′ counts′ next′ link-row u ∙ same u)
-            ∙ ap (λ (ts : List Tail). tailsAfter w u ts (tailsAt r rows (chain heads counts next u))) (sym (tails-from-next rows r c i start lt))
-            ∙ root .2 u,
-      )
+    pub root-longer : (k : ℕ) → AtMost k counts → AtMost (k + 1) counts′
+    root-longer = chain-longer linked

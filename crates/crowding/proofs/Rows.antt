@@ -19,7 +19,7 @@ use Rattle.crowding.specs.Chains.{rowEnd, tailAt, tailsAt, linked, Ascen
 abbrev pub nodesFrom : (rows : List ℕ) (f n : ℕ) → List ℕ
 nodesFrom rows f n = take n (drop f rows)
 
-pub nodes-next : (rows : List ℕ) (f n : ℕ) → f < length rows → nodesFrom rows f (suc n) ≡ getD rows f 0 ∷ nodesFrom rows (suc f) n
+nodes-next : (rows : List ℕ) (f n : ℕ) → f < length rows → nodesFrom rows f (suc n) ≡ getD rows f 0 ∷ nodesFrom rows (suc f) n
 nodes-next rows f n h = rw (drop-cons rows f 0 h)
 
 length-nodes : (rows : List ℕ) (f n : ℕ) → f + n ≤ length rows → length (nodesFrom rows f n) ≡ n
@@ -35,7 +35,7 @@ none-rest rows u f n h q le lt = h q (omega arith) (omega arith)
 none-first : (rows : List ℕ) (u f n : ℕ) → None rows u f (suc n) → eqb u (getD rows f 0) ≡ false
 none-first rows u f n h = ne-eqb u (getD rows f 0) (h f (omega arith) (omega arith))
 
-pub linked-none : (rows : List ℕ) (u f n : ℕ) (found : List ℕ) → None rows u f n → linked rows u f n found ≡ found
+linked-none : (rows : List ℕ) (u f n : ℕ) (found : List ℕ) → None rows u f n → linked rows u f n found ≡ found
 unfolding linked
 linked-none rows u f zero found none = refl
 linked-none rows u f (suc n) found none =

@@ -16,18 +16,6 @@ use Rattle.lists.proofs.Counts.{count-append, count-map}
 use Rattle.lists.proofs.DoubleCount.{count-none}
 use Rattle.packing.specs.Rows.{ascending, member, holds, subsets}
 
--- each set has j nodes, and of its nodes holds what holds of the row's
-pub all-subsets : (P : ℕ → Type 0) (j : ℕ) (l : List ℕ) → All P l → All (λ s. (length s ≡ j) × All P s) (subsets j l)
-unfolding subsets
-all-subsets P zero l p = ((refl, tt), tt)
-all-subsets P (suc j) [] p = tt
-all-subsets P (suc j) (v ∷ l) p =
-    all-append (λ s. (length s ≡ suc j) × All P s) (map (λ s. v ∷ s) (subsets j l)) (subsets (suc j) l)
-    (all-map (λ s. (length s ≡ suc j) × All P s) (λ s. v ∷ s) (subsets j l)
-    (all-imp (λ s. (length s ≡ j) × All P s) (λ s. (length (v ∷ s) ≡ suc j) × All P (v ∷ s))
-    (λ s q. (ap suc (q .0), (p .0, q .1))) (subsets j l) (all-subsets P j l (p .1))))
-    (all-subsets P (suc j) l (p .1))
-
 pub ascending-mono : (lo hi : ℕ) (l : List ℕ) → lo ≤ hi → T (ascending hi l) → T (ascending lo l)
 unfolding ascending
 ascending-mono lo hi [] h a = tt

@@ -13,14 +13,13 @@ use Rattle.lists.specs.Lists.{All, count, tally, firstWhere, later}
 use Rattle.lists.proofs.Tests.{and-left, and-right, and-both}
 use Rattle.lists.proofs.Alls.{all-imp}
 use Rattle.lists.proofs.Counts.{count-mono}
+use Rattle.lists.proofs.Finds.{some-firstWhere}
 use Rattle.lists.proofs.Listed.{all-mem, any-mem, count-mem, passing-any, passing-count}
-use Rattle.packing.specs.Rows.{ascending, together, holds, subsets, crowded, firstCrowded}
+use Rattle.packing.specs.Rows.{ascending, together, holds, subsets, SetIn, crowded, firstCrowded}
 use Rattle.packing.proofs.Members.{ascending-distinct}
-use Rattle.packing.proofs.Sets.{SetIn, subsets-in, listed-set, together-same}
-use Rattle.crowding.specs.Tails.{rowNumber}
-use Rattle.crowding.specs.Tails.{Tail, lowestCrowded, rowTails}
+use Rattle.packing.proofs.Sets.{subsets-in, listed-set, together-same}
+use Rattle.crowding.specs.Tails.{Tail, lowestCrowded, rowTails, rowNumber}
 use Rattle.crowding.proofs.Sets.{subsets-ascending}
-use Rattle.crowding.proofs.First.{Below, first-below}
 use Rattle.crowding.proofs.TailSets.{GoodFrom, GoodTails, meets}
 use Rattle.crowding.proofs.Lowest.{Crowds, lowest-le, lowest-early, lowest-found}
 
@@ -41,9 +40,9 @@ tails-from i [] = tt
 tails-from i (row ∷ rows) =
     (le-refl i, all-imp (λ t. suc i ≤ t .row) (λ t. i ≤ t .row) (λ t h. omega arith) (rowTails (suc i) rows) (tails-from (suc i) rows))
 
-number-le : (n : ℕ) (o : Option ℕ) → Below n o → n ≤ 65536 → rowNumber o ≤ 65536
-number-le n none b h = le-refl _
-number-le n (some j) b h = omega arith
+number-le : (o : Option ℕ) → ((j : ℕ) → o ≡ some j → j < 65536) → rowNumber o ≤ 65536
+number-le none below = le-refl _
+number-le (some j) below = omega (arith, below j refl)
 
 -- the first row that passes a test, as the least row number of a tail that passes it
 module _ (test : List ℕ → Bool) where
@@ -158,7 +157,7 @@ module _ (x bound : ℕ) (rows : List (List ℕ)) (good : All (GoodFrom 0) rows)
   first-le-lowest few =
       let n = lowestCrowded (suc x) bound (rowTails 0 rows) 65536 in
       lowest-found (rowNumber (firstCrowded x bound rows) ≤ n) (suc x) 0 bound n (rowTails 0 rows) good-tails 65536
-      (le-trans (number-le (length rows) (firstCrowded x bound rows) (first-below (crowded x bound rows) rows) few))
+      (le-trans (number-le (firstCrowded x bound rows) (λ j e. le-trans (some-firstWhere (crowded x bound rows) rows [] j e .within) few)))
       (first-le-tail n) (le-refl n)
 
 -- the least row number that growing sets by tails finds is the first crowded row's

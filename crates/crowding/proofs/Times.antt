@@ -21,7 +21,7 @@ use Rattle.crowding.proofs.Rows.{nodesFrom, step, tails-linked}
 use Rattle.crowding.proofs.Walks.{row-start, before-end}
 
 -- the next position, and the last
-pub times-next : (rows : List ℕ) (v f to : ℕ) → f < to
+times-next : (rows : List ℕ) (v f to : ℕ) → f < to
     → times rows v f (to - f) ≡ tally (eqb v (getD rows f 0)) (times rows v (f + 1) (to - (f + 1)))
 unfolding times
 times-next rows v f to lt =

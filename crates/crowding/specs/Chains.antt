@@ -8,6 +8,7 @@ use mathlib.Core.List.{List, [], _∷_, map}
 use lib.ListN.{length, getD, take, drop}
 use lib.Dec.{eqb}
 use Rattle.lists.specs.Lists.{All, tally, largest, upTo}
+use Rattle.crowding.specs.declared.Chain.{Chain}
 use Rattle.crowding.specs.Tails.{Tail, tailsAfter, overNodes, lowestCrowded}
 
 -- the end of the row that position p is in
@@ -26,7 +27,15 @@ unfoldable pub follow : (n : ℕ) (next : List ℕ) (p : ℕ) → List ℕ
 follow zero next p = []
 follow (suc n) next p = p ∷ follow n next (getD next p 0)
 
--- the chain of node v
+-- the positions of a chain
+abbrev pub positions : (next : List ℕ) (chain : Chain) → List ℕ
+positions next chain = follow (chain .count) next (chain .head)
+
+-- the node that a chain's positions have
+abbrev pub nodeOf : (rows : List ℕ) (chain : Chain) → ℕ
+nodeOf rows chain = getD rows (chain .head) 0
+
+-- the positions of node v
 abbrev pub chain : (heads counts next : List ℕ) (v : ℕ) → List ℕ
 chain heads counts next v = follow (getD counts v 0) next (getD heads v 0)
 
@@ -66,14 +75,11 @@ Chained r rows v chain = All (Placed r rows v) chain × Apart r chain
 abbrev pub Ascends : (r : ℕ) → List ℕ → Type 0
 Ascends r rows = (p q : ℕ) → p < q → q < rowEnd r p → rowEnd r p ≤ length rows → getD rows p 0 < getD rows q 0
 
--- every node is below n
-abbrev pub NodesBelow : (n : ℕ) (rows : List ℕ) → Type 0
-NodesBelow n rows = (p : ℕ) → p < length rows → getD rows p 0 < n
+-- every node, or every chain's length, is at most m
+abbrev pub AtMost : (m : ℕ) → List ℕ → Type 0
+AtMost m l = (i : ℕ) → getD l i 0 ≤ m
 
--- every chain is at most m long; those of the nodes below v are empty
-abbrev pub AtMost : (m : ℕ) (counts : List ℕ) → Type 0
-AtMost m counts = (v : ℕ) → getD counts v 0 ≤ m
-
+-- the chains of the nodes below v are empty
 abbrev pub EmptyBelow : (v : ℕ) (counts : List ℕ) → Type 0
 EmptyBelow v counts = (u : ℕ) → u < v → getD counts u 0 ≡ 0
 

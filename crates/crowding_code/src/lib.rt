@@ -2,7 +2,7 @@
 mod least;
 mod visits;
 
-use packing::Record;
+use crowding::Level;
 use packing::RowFound;
 ghost use mathlib.Core.Path.{_≡_};
 ghost use Prim.Native.Nat.{_*_, _≤_, _<_};
@@ -38,11 +38,11 @@ pub fn first_crowded(rows: &[u8], c: usize, r: usize, x: usize, bound: usize) ->
     if few_loads(rows, c, r, x, bound) {
         return RowFound::Nothing;
     }
-    let mut next = [0u16; 20480];
     let end = c * r;
-    let least = crate::least::least_crowded(&rows[0..end], c, r, x, bound, &mut next);
-    if least < 65536 {
-        return RowFound::At(Record(least));
+    let level = Level { r, w: x };
+    let least = crate::least::least_crowded(&rows[0..end], c, level, bound);
+    if least.0 < 65536 {
+        return RowFound::At(least);
     }
     RowFound::Nothing
 }

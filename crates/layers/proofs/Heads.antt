@@ -1,5 +1,5 @@
 -- Which numbers of a head are accepted: each within its limits, the layers' two numbers in turn. Assumes nothing.
-use Prim.Native.Nat.{ℕ, zero, suc, _+_, _-_, _≤_}
+use Prim.Native.Nat.{ℕ, zero, suc, _+_, _-_, _≤_, min}
 use native.Mathlib.Omega.{arith}
 use mathlib.Core.Path.{_≡_, refl, _∙_, ap, subst}
 use mathlib.Core.Bool.{Bool, true, false}
@@ -11,10 +11,13 @@ use Rattle.lists.specs.Lists.{All, total}
 use Rattle.refusal.specs.declared.Refusal.the-variants.{WrongKind}
 use Rattle.refusal.specs.Checked.{accepted}
 use Rattle.refusal.proofs.Checked.{accepted-injective, bind-elim, require-bind-accepted}
-use Rattle.number.specs.Numbers.{Reading, readNumber, readWithin}
+use Rattle.number.specs.Numbers.{readNumber, readWithin}
+use Rattle.number.specs.declared.Reading.{Reading}
 use Rattle.number.proofs.Within.{read-of-readWithin, readWithin-accepted}
-use Rattle.layers.specs.Layers.{LayerHead, LayerHeads, LayerLimits, headNumbers, sizes, leastSize, readKind, readLayers}
-use Rattle.layers.proofs.NumbersRead.{Reads}
+use Rattle.layers.specs.Layers.{LayerHeads, headNumbers, sizes, BaseReading, BaseLimits, leastSize, readKind, readBase, readLayers}
+use Rattle.layers.specs.declared.LayerHead.{LayerHead}
+use Rattle.layers.specs.declared.LayerLimits.{LayerLimits}
+use Rattle.layers.proofs.NumbersRead.{Reads, reads-le-length}
 
 -- The first number is accepted exactly where it is read and is the file's kind.
 pub read-of-readKind : (kind : ℕ) (s : List ℕ) {n : Reading} → readKind kind s ≡ accepted n
@@ -32,6 +35,39 @@ pub readKind-accepted : (kind : ℕ) (s : List ℕ) {next : ℕ}
     → readKind kind s ≡ accepted (record { value = kind; next = next })
 unfolding readKind
 readKind-accepted kind s e = rw (e, eq-eqb kind kind refl)
+
+-- "The number 1; n; r", "The number 2; n; r": accepted exactly where they are read and within their limits
+pub reads-of-readBase : (kind : ℕ) (s : List ℕ) {b : BaseReading} → readBase kind s ≡ accepted b
+    → Reads (kind ∷ b .base .n ∷ b .base .r ∷ []) s 0 (b .next) × BaseLimits (b .base .n) (b .base .r)
+unfolding readBase
+reads-of-readBase kind s e =
+    bind-elim (readKind kind s) _ e λ first e₁ r₁.
+    bind-elim (readWithin 2 255 s (first .next)) _ r₁ λ n e₂ r₂.
+    bind-elim (readWithin 2 (min 5 (n .value)) s (n .next)) _ r₂ λ r e₃ r₃.
+    let (read₂, n-least, n-most) = read-of-readWithin 2 255 s (first .next) e₂ in
+    let (read₃, r-least, r-most) = read-of-readWithin 2 (min 5 (n .value)) s (n .next) e₃ in
+    subst
+    (λ b. Reads (kind ∷ b .base .n ∷ b .base .r ∷ []) s 0 (b .next) × BaseLimits (b .base .n) (b .base .r))
+    (accepted-injective r₃) (
+      (first .next, read-of-readKind kind s e₁, (n .next, read₂, (r .next, read₃, refl))),
+      record { n-least = omega arith; n-most = omega arith; r-least = omega arith; r-most = omega arith; r-nodes = omega arith },
+    )
+
+-- n and r end within the bytes
+pub readBase-inside : (kind : ℕ) (s : List ℕ) {b : BaseReading} → readBase kind s ≡ accepted b → b .next ≤ length s
+readBase-inside kind s {b} e =
+    reads-le-length (kind ∷ b .base .n ∷ b .base .r ∷ []) s 0 (b .next) (omega arith) (reads-of-readBase kind s e .0)
+
+pub readBase-accepted : (kind n r : ℕ) (s : List ℕ) (next : ℕ) → Reads (kind ∷ n ∷ r ∷ []) s 0 next → BaseLimits n r
+    → readBase kind s ≡ accepted (record { base = record { n = n; r = r }; next = next })
+unfolding readBase
+readBase-accepted kind n r s next (p, read₁, (q, read₂, (end, read₃, e))) l =
+    rw (
+      readKind-accepted kind s read₁,
+      readWithin-accepted 2 255 s p read₂ (omega (arith, l .n-least)) (omega (arith, l .n-most)),
+      readWithin-accepted 2 (min 5 n) s q read₃ (omega (arith, l .r-least)) (omega (arith, l .r-most, l .r-nodes)),
+      e,
+    )
 
 -- the sizes of `left` layers sum to at most `room` or, where they must fill it, to it
 abbrev pub SizesFit : (full : Bool) (left room sum : ℕ) → Type 0

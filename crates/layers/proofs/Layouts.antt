@@ -7,12 +7,12 @@ use mathlib.Core.List.{List, [], _∷_, _++_, flatten, append-assoc}
 use lib.ListN.{length, take, drop, length-drop}
 use lib.Seq.{take-add, drop-at}
 use Rattle.lists.specs.Lists.{All, total}
-use Rattle.lists.proofs.Alls.{all-append, all-append-left, all-append-right}
+use Rattle.lists.proofs.Alls.{all-append, all-append-left, all-append-right, length-flatten}
 use Rattle.lists.proofs.Counts.{flatten-append}
 use Rattle.packing.specs.Rows.{rowsAt}
 use Rattle.packing.proofs.RowsAt.{length-rowsAt, flatten-rowsAt, rowsAt-lengths, rowsAt-flatten}
-use Rattle.layers.specs.Layers.{Layer, LayerHead, size, sizes, allRows, headsOf, layersAt}
-use Rattle.layers.proofs.Lengths.{length-flatten-rows}
+use Rattle.layers.specs.Layers.{Layer, sizes, allRows, headsOf, layersAt}
+use Rattle.layers.specs.declared.LayerHead.{LayerHead}
 
 pub headsOf-layersAt : (r : ℕ) (heads : List LayerHead) (s : List ℕ) → headsOf (layersAt r heads s) ≡ heads
 unfolding layersAt
@@ -62,6 +62,6 @@ layersAt-flatten r (layer ∷ layers) t h =
       flatten-append (layer .rows) (allRows layers),
       append-assoc (flatten (layer .rows)) (flatten (allRows layers)) t,
       rowsAt-flatten r (layer .rows) after first,
-      drop-at (flatten (layer .rows)) after (size layer * r) (length-flatten-rows r (layer .rows) first),
+      drop-at (flatten (layer .rows)) after (length (layer .rows) * r) (length-flatten r (layer .rows) first),
       layersAt-flatten r layers t rest,
     )

@@ -6,8 +6,8 @@ pub mod Packings
 pub mod RowsChecked
 pub mod Files
 pub mod Prefix
-pub mod Readings
 pub mod Arrays
-pub mod Stages
 pub mod Worked
-pub mod FirstCrowded
+pub mod Answered
+pub mod Meaning
+pub mod KindMeaning

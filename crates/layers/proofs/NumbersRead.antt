@@ -1,13 +1,13 @@
 -- Numbers read one after another: where they stand, and that they are the forms of those numbers. Assumes nothing.
 use Prim.Native.Nat.{ℕ, _+_, _*_, _≤_}
 use native.Mathlib.Omega.{arith}
-use mathlib.Core.Path.{_≡_}
+use mathlib.Core.Path.{_≡_, refl}
 use mathlib.Core.List.{List, [], _∷_, _++_, append-assoc}
 use lib.ListN.{length, length-append}
 use lib.Seq.{slice, slice-empty}
 use Rattle.refusal.specs.Checked.{accepted}
 use Rattle.number.specs.Numbers.{Bytes, Forms, readNumber}
-use Rattle.number.proofs.Reading.{form-read, read-form, read-next}
+use Rattle.number.proofs.Laws.{form-read, read-form, read-next}
 use Rattle.lists.proofs.Prefixes.{slice-append}
 
 -- the numbers are read one after another, the first at `at`, and the place after the last is `end`
@@ -37,6 +37,18 @@ reads-next (v ∷ vs) s at end h =
     let rest = reads-next vs s (h .0) end (h .2) in
     let first = read-next s at (h .1) in
     omega arith
+
+-- numbers after numbers
+pub reads-append : (vs ws s : List ℕ) (at mid end : ℕ) → Reads vs s at mid → Reads ws s mid end → Reads (vs ++ ws) s at end
+reads-append [] ws s at mid end h k = rw h k
+reads-append (v ∷ vs) ws s at mid end h k = (h .0, h .1, reads-append vs ws s (h .0) mid end (h .2) k)
+
+pub reads-split : (vs ws s : List ℕ) (at end : ℕ) → Reads (vs ++ ws) s at end
+    → (mid : ℕ) × Reads vs s at mid × Reads ws s mid end
+reads-split [] ws s at end h = (at, refl, h)
+reads-split (v ∷ vs) ws s at end h =
+    let rest = reads-split vs ws s (h .0) end (h .2) in
+    (rest .0, (h .0, h .1, rest .1), rest .2)
 
 -- numbers that were read stand there in their forms
 pub reads-forms : (vs s : List ℕ) (at end : ℕ) → Bytes s → at ≤ length s → Reads vs s at end → Forms vs (slice at end s)

@@ -5,11 +5,12 @@ use mathlib.Core.Path.{_≡_, refl}
 use mathlib.Core.Logic.{_↔_}
 use mathlib.Core.List.{List, [], _∷_, flatten}
 use mathlib.Core.Option.{Option, none, some}
+use lib.ListN.{length}
 use Rattle.lists.specs.Lists.{All}
 use Rattle.lists.proofs.Alls.{all-append-left, all-append-right}
 use Rattle.packing.specs.Rows.{Row, firstCrowded}
 use Rattle.packing.proofs.Test.{uncrowded-packing, packing-uncrowded}
-use Rattle.layers.specs.Layers.{Layer, size, allRows, Packings, firstOf, firstCrowdedOf}
+use Rattle.layers.specs.Layers.{Layer, allRows, Packings, firstOf, firstCrowdedOf}
 
 -- nothing is found in a layer or after it exactly where nothing is found in each
 first-of-none : (o : Option ℕ) (size : ℕ) (after : Option ℕ) → firstOf o size after ≡ none → (o ≡ none) × (after ≡ none)
@@ -22,7 +23,7 @@ pub uncrowded-packings : (x : ℕ) (layers : List Layer) → firstCrowdedOf x la
 unfolding firstCrowdedOf
 uncrowded-packings x [] e = tt
 uncrowded-packings x (layer ∷ layers) e =
-    let h = first-of-none (firstCrowded x (layer .bound) (layer .rows)) (size layer) (firstCrowdedOf (suc x) layers) e in
+    let h = first-of-none (firstCrowded x (layer .bound) (layer .rows)) (length (layer .rows)) (firstCrowdedOf (suc x) layers) e in
     (uncrowded-packing x (layer .bound) (layer .rows) (h .0), uncrowded-packings (suc x) layers (h .1))
 
 pub packings-uncrowded : (n r x : ℕ) (layers : List Layer) → Packings x layers → All (Row n r) (allRows layers) → firstCrowdedOf x layers ≡ none

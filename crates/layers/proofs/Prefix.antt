@@ -1,6 +1,6 @@
 -- A check looks no further than the head's numbers and the rows that they say, so it is the same for a long enough
 -- beginning of the bytes. Assumes nothing.
-use Prim.Native.Nat.{ℕ, zero, suc, _+_, _*_, _-_, _≤_, _<_}
+use Prim.Native.Nat.{ℕ, zero, suc, _+_, _*_, _-_, _≤_, _<_, min}
 use native.Mathlib.Omega.{arith}
 use native.Mathlib.Nat.{mul-le-mul-right}
 use mathlib.Core.Path.{_≡_, refl}
@@ -10,16 +10,23 @@ use lib.Seq.{length-take-le}
 use borrow.Author.Tests.{le-leb, lt-leb}
 use Rattle.refusal.specs.Checked.{accepted}
 use Rattle.refusal.proofs.Checked.{bind-congr}
-use Rattle.number.specs.Numbers.{Reading, readWithin}
-use Rattle.number.proofs.Reading.{read-next, read-local}
+use Rattle.number.specs.Numbers.{readWithin}
+use Rattle.number.specs.declared.Reading.{Reading}
+use Rattle.number.proofs.Laws.{read-next, read-local}
 use Rattle.number.proofs.Within.{read-of-readWithin}
-use Rattle.layers.specs.Layers.{LayerHead, LayerHeads, LayerLimits, headNumbers, sizes, leastSize, readKind, readLayers, checkRows}
+use Rattle.layers.specs.Layers.{LayerHeads, headNumbers, sizes, BaseReading, leastSize, readKind, readBase, readLayers, checkLength, checkEnd, checkRows}
+use Rattle.layers.specs.declared.Base.{Base}
+use Rattle.layers.specs.declared.LayerHead.{LayerHead}
+use Rattle.layers.specs.declared.LayerLimits.{LayerLimits}
 use Rattle.layers.proofs.NumbersRead.{reads-next}
-use Rattle.layers.proofs.Heads.{fit-le, read-of-readKind, reads-of-readLayers}
+use Rattle.layers.proofs.Heads.{fit-le, read-of-readKind, reads-of-readBase, reads-of-readLayers}
 
--- the place after a number that was accepted
+-- the place after a number that was accepted, and after n and r
 pub readKind-next : (kind : ℕ) (s : List ℕ) {n : Reading} → readKind kind s ≡ accepted n → n .next ≤ 4
 readKind-next kind s e = omega (arith, read-next s 0 (read-of-readKind kind s e))
+
+pub readBase-next : (kind : ℕ) (s : List ℕ) {b : BaseReading} → readBase kind s ≡ accepted b → b .next ≤ 12
+readBase-next kind s {b} e = reads-next (kind ∷ b .base .n ∷ b .base .r ∷ []) s 0 (b .next) (reads-of-readBase kind s e .0)
 
 pub readWithin-next : (lo hi : ℕ) (s : List ℕ) (at : ℕ) {n : Reading} → readWithin lo hi s at ≡ accepted n
     → n .next ≤ at + 4
@@ -40,6 +47,15 @@ module _ (m : ℕ) (s : List ℕ) (long : m ≤ length s) where
   unfolding readWithin
   readWithin-take lo hi at h = rw (read-local m s at h long)
 
+  pub readBase-take : (kind : ℕ) → 12 ≤ m → readBase kind (take m s) ≡ readBase kind s
+  unfolding readBase
+  readBase-take kind h =
+      bind-congr _ _ _ _ (readKind-take kind (omega arith)) λ first e₁.
+      let next₁ = readKind-next kind (take m s) e₁ in
+      bind-congr _ _ _ _ (readWithin-take 2 255 (first .next) (omega arith)) λ n e₂.
+      let next₂ = readWithin-next 2 255 (take m s) (first .next) e₂ in
+      bind-congr _ _ _ _ (readWithin-take 2 (min 5 (n .value)) (n .next) (omega arith)) (λ r e₃. refl)
+
   pub readLayers-take : (limits : LayerLimits) (left room at : ℕ) → at + left * 8 ≤ m
       → readLayers limits left room (take m s) at ≡ readLayers limits left room s at
   unfolding readLayers
@@ -52,11 +68,11 @@ module _ (m : ℕ) (s : List ℕ) (long : m ≤ length s) where
       bind-congr _ _ _ _ (readLayers-take limits left (room - size .value) (size .next) (omega arith)) (λ rest e₃. refl)
 
   -- Rows that end before m: the bytes from there to m are trailing, and so are all.
-  pub checkRows-take : (n r : ℕ) (heads : List LayerHead) (at : ℕ) → at + sizes heads * r < m
-      → checkRows n r heads (take m s) at ≡ checkRows n r heads s at
-  unfolding checkRows
-  checkRows-take n r heads at h =
-      let end = at + sizes heads * r in
+  pub checkRows-take : (base : Base) (heads : List LayerHead) (at : ℕ) → at + sizes heads * base .r < m
+      → checkRows base heads (take m s) at ≡ checkRows base heads s at
+  unfolding checkLength checkEnd checkRows
+  checkRows-take base heads at h =
+      let end = at + sizes heads * base .r in
       rw (
         length-take-le m s long,
         le-leb end m (omega arith),
@@ -78,9 +94,9 @@ rows-end limits left room r s at {head} e =
     omega arith
 
 -- The layers' numbers and rows, checked one after the other.
-pub layers-take : (limits : LayerLimits) (n r left room : ℕ) (s : List ℕ) (at m : ℕ) {head : LayerHeads} → m ≤ length s
-    → readLayers limits left room (take m s) at ≡ accepted head → at + left * 8 + room * r < m
-    → checkRows n r (head .heads) (take m s) (head .next) ≡ checkRows n r (head .heads) s (head .next)
-layers-take limits n r left room s at m {head} long e h =
-    let end = rows-end limits left room r (take m s) at e in
-    checkRows-take m s long n r (head .heads) (head .next) (omega arith)
+pub layers-take : (limits : LayerLimits) (base : Base) (left room : ℕ) (s : List ℕ) (at m : ℕ) {head : LayerHeads} → m ≤ length s
+    → readLayers limits left room (take m s) at ≡ accepted head → at + left * 8 + room * base .r < m
+    → checkRows base (head .heads) (take m s) (head .next) ≡ checkRows base (head .heads) s (head .next)
+layers-take limits base left room s at m {head} long e h =
+    let end = rows-end limits left room (base .r) (take m s) at e in
+    checkRows-take m s long base (head .heads) (head .next) (omega arith)

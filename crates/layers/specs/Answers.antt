@@ -1,73 +1,28 @@
--- The answers of reading layers and checking rows as values of the code's types, and what each case says. Assumes nothing.
-use Prim.Native.Nat.{ℕ}
-use mathlib.Core.List.{List, [], _∷_, map}
-use lib.ListN.{getD}
-use Rattle.lists.specs.Lists.{upTo}
-use Rattle.refusal.specs.declared.Refusal.{Refusal}
-use Rattle.refusal.specs.declared.Refusal.the-variants.{Ended}
-use Rattle.refusal.specs.Refusals.{Outcome, result, refusalOutcome}
-use Rattle.refusal.specs.Checked.{Checked, accepted, refused, _>>=_}
-use Rattle.number.specs.declared.NumberRead.{NumberRead}
-use Rattle.number.specs.declared.NumberRead.the-variants.{Value, Refused as NotRead}
-use Rattle.number.specs.Numbers.{Reading, readWithin}
-use Rattle.layers.specs.Layers.{LayerHead, LayerHeads, five}
-use Rattle.layers.specs.declared.LayerRead.{LayerRead}
-use Rattle.layers.specs.declared.LayerRead.the-variants.{Numbers, Refused as LayerRefused}
-use Rattle.layers.specs.declared.HeadsAnswer.{HeadsAnswer}
-use Rattle.layers.specs.declared.HeadsAnswer.the-variants.{Next, Refused}
+-- The answers of reading heads as values of the code's types. Assumes nothing.
+use mathlib.Core.List.{List, [], _++_}
+use lib.ListN.{take, replicate}
+use Rattle.refusal.specs.declared.Verdict.the-variants.{Good, Refused}
+use Rattle.refusal.specs.Checked.{Checked, accepted, refused}
+use Rattle.layers.specs.Layers.{BaseReading, LayerHeads}
+use Rattle.layers.specs.declared.BaseRead.{BaseRead}
+use Rattle.layers.specs.declared.LayerHead.{LayerHead}
 use Rattle.layers.specs.declared.LayersRead.{LayersRead}
-use Rattle.layers.specs.declared.RowsAnswer.{RowsAnswer}
-use Rattle.layers.specs.declared.RowsAnswer.the-variants.{Good, Refused as RowsRefused}
 
--- the refusal of a number that was not read; the code asks it of no other
-abbrev pub refusalOf : NumberRead → Refusal
-refusalOf (Value v next) = Ended next
-refusalOf (NotRead e) = e
+-- the code's array of five for up to five layers, filled up with `none`
+abbrev pub five : {A : Type 0} → (none : A) → List A → List A
+five none l = take 5 (l ++ replicate 5 none)
 
--- one layer's two numbers, and the next place
-pub record LayerReading : Type 0 where
-  pub head : LayerHead
-  pub next : ℕ
+-- what stands for the numbers of a layer that is not there
+abbrev pub noHead : LayerHead
+noHead = record { bound = 0; size = 0 }
 
--- one turn of `readLayers`: the bound, then the size
-unfoldable pub readLayer : (lo hi least room : ℕ) → List ℕ → (at : ℕ) → Checked LayerReading
-readLayer lo hi least room s at = do
-  bound ← readWithin lo hi s at
-  size ← readWithin least room s (bound .next)
-  accepted (record { head = record { bound = bound .value; size = size .value }; next = size .next })
+abbrev pub fiveHeads : List LayerHead → List LayerHead
+fiveHeads heads = five noHead heads
 
-abbrev pub layerRead : Checked LayerReading → LayerRead
-layerRead (accepted layer) = Numbers (layer .head .bound) (layer .head .size) (layer .next)
-layerRead (refused e) = LayerRefused e
-
--- a layer's values are its bound, its size and the next place
-abbrev pub layerOutcome : LayerRead → Outcome
-layerOutcome (Numbers bound size next) = result (bound ∷ size ∷ next ∷ [])
-layerOutcome (LayerRefused e) = refusalOutcome e
+abbrev pub baseRead : Checked BaseReading → BaseRead
+baseRead (accepted b) = record { verdict = Good; base = b .base; next = b .next }
+baseRead (refused e) = record { verdict = Refused e; base = record { n = 0; r = 0 }; next = 0 }
 
 abbrev pub layersRead : Checked LayerHeads → LayersRead
-layersRead (accepted layers) =
-    record {
-      answer = Next (layers .next);
-      bound = five (map (λ head. head .bound) (layers .heads));
-      size = five (map (λ head. head .size) (layers .heads));
-    }
-layersRead (refused e) = record { answer = Refused e; bound = five []; size = five [] }
-
--- the layers' value is the next place; their numbers stand beside the answer
-abbrev pub headsOutcome : HeadsAnswer → Outcome
-headsOutcome (Next next) = result (next ∷ [])
-headsOutcome (Refused e) = refusalOutcome e
-
--- the two numbers of the first layers that the code's arrays give
-abbrev pub arrayHeads : (layers : ℕ) (bound size : List ℕ) → List LayerHead
-arrayHeads layers bound size = map (λ x. record { bound = getD bound x 0; size = getD size x 0 }) (upTo layers)
-
-abbrev pub rowsAnswer : {A : Type 0} → Checked A → RowsAnswer
-rowsAnswer (accepted a) = Good
-rowsAnswer (refused e) = RowsRefused e
-
--- good rows have no value of their own
-abbrev pub rowsOutcome : RowsAnswer → Outcome
-rowsOutcome Good = result []
-rowsOutcome (RowsRefused e) = refusalOutcome e
+layersRead (accepted layers) = record { verdict = Good; heads = fiveHeads (layers .heads); next = layers .next }
+layersRead (refused e) = record { verdict = Refused e; heads = fiveHeads []; next = 0 }

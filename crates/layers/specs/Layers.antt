@@ -1,25 +1,26 @@
 -- What document 01's "Pack" and "Placement" share: layers, their numbers in the head, and their rows. Assumes nothing.
-use Prim.Native.Nat.{ℕ, zero, suc, _+_, _*_, _-_}
+use Prim.Native.Nat.{ℕ, zero, suc, _+_, _*_, _-_, _≤_, min}
 use mathlib.Core.Path.{_≡_}
 use mathlib.Core.Bool.{Bool, true, false}
 use mathlib.Core.List.{List, [], _∷_, _++_, map, flatten}
 use mathlib.Core.Option.{Option, none, some}
-use lib.ListN.{length, take, drop, replicate}
+use lib.ListN.{length, drop}
 use lib.Dec.{leb, eqb}
-use Rattle.lists.specs.Lists.{All, total}
+use Rattle.lists.specs.Lists.{total}
 use Rattle.refusal.specs.declared.Refusal.the-variants.{WrongKind, Ended, Trailing, BadRow, Crowded}
 use Rattle.refusal.specs.declared.Refusal.{Refusal}
 use Rattle.refusal.specs.Checked.{Checked, accepted, refused, _>>=_, require}
-use Rattle.number.specs.Numbers.{Reading, Forms, readNumber, readWithin}
-use Rattle.packing.specs.Rows.{Row, Packing, rowsAt, firstBad, firstCrowded}
+use Rattle.number.specs.Numbers.{Forms, readNumber, readWithin}
+use Rattle.number.specs.declared.Reading.{Reading}
+use Rattle.packing.specs.Rows.{Packing, rowsAt, firstBad, firstCrowded}
+use Rattle.layers.specs.declared.Base.{Base}
+use Rattle.layers.specs.declared.LayerHead.{LayerHead}
+use Rattle.layers.specs.declared.LayerLimits.{LayerLimits}
 
 -- A layer: its bound (mu or lambda), and its rows.
 pub record Layer : Type 0 where
   pub bound : ℕ
   pub rows : List (List ℕ)
-
-abbrev pub size : Layer → ℕ
-size layer = length (layer .rows)
 
 -- "layer by layer": the rows of all layers in the file's order
 abbrev pub allRows : List Layer → List (List ℕ)
@@ -31,12 +32,11 @@ Packings x [] = Unit
 Packings x (layer ∷ layers) = Packing x (layer .bound) (layer .rows) × Packings (suc x) layers
 
 -- a layer's two numbers in the head
-pub record LayerHead : Type 0 where
-  pub bound : ℕ
-  pub size : ℕ
+abbrev pub headOf : Layer → LayerHead
+headOf layer = record { bound = layer .bound; size = length (layer .rows) }
 
 abbrev pub headsOf : List Layer → List LayerHead
-headsOf layers = map (λ layer. record { bound = layer .bound; size = size layer }) layers
+headsOf layers = map headOf layers
 
 -- "for each x .. the numbers mu .. and m", "lambda .. and c"
 unfoldable pub headNumbers : List LayerHead → List ℕ
@@ -47,16 +47,27 @@ headNumbers (head ∷ heads) = head .bound ∷ head .size ∷ headNumbers heads
 abbrev pub sizes : List LayerHead → ℕ
 sizes heads = total (map (λ head. head .size) heads)
 
--- a file is its head's numbers, then the rows, "then the end"
-abbrev pub File : (head : List ℕ) (layers : List Layer) (bytes : List ℕ) → Type 0
-File head layers bytes = (h : List ℕ) × Forms head h × (bytes ≡ h ++ flatten (allRows layers))
+-- a file is its head's numbers, then the rows, then the numbers after them, "then the end"
+abbrev pub File : (head : List ℕ) (layers : List Layer) (after bytes : List ℕ) → Type 0
+File head layers after bytes =
+    (h : List ℕ) × (t : List ℕ) × Forms head h × Forms after t × (bytes ≡ h ++ (flatten (allRows layers) ++ t))
 
--- the limits of a layer's two numbers: the bound is from `lo` to `hi`; the sizes so far sum to at most a limit, and, where
--- `full`, the last "must equal what is left" of it
-pub record LayerLimits : Type 0 where
-  pub lo : ℕ
-  pub hi : ℕ
-  pub full : Bool
+-- What a check hands on: what the file says, and the place of its first row.
+pub record Located (A : Type 0) : Type 0 where
+  pub content : A
+  pub first : ℕ
+
+-- the rows of the layers stand from the place `first` to the end
+abbrev pub Stands : List ℕ → (first : ℕ) → List Layer → Type 0
+Stands s first layers = (first ≤ length s) × (drop first s ≡ flatten (allRows layers))
+
+-- "Limits: n 2..255; r 2..5 and at most n"
+pub record BaseLimits (n r : ℕ) : Type 0 where
+  pub n-least : 2 ≤ n
+  pub n-most : n ≤ 255
+  pub r-least : 2 ≤ r
+  pub r-most : r ≤ 5
+  pub r-nodes : r ≤ n
 
 -- the least size of a layer with `after` layers after it and `room` left
 abbrev pub leastSize : (full : Bool) (after room : ℕ) → ℕ
@@ -75,6 +86,19 @@ readKind kind s = do
   first ← readNumber s 0
   _ ← require (eqb (first .value) kind) WrongKind
   accepted first
+
+-- n and r, and the next place
+pub record BaseReading : Type 0 where
+  pub base : Base
+  pub next : ℕ
+
+-- "The number 1; n; r", "The number 2; n; r": what every file begins with
+unfoldable pub readBase : (kind : ℕ) → List ℕ → Checked BaseReading
+readBase kind s = do
+  first ← readKind kind s
+  n ← readWithin 2 255 s (first .next)
+  r ← readWithin 2 (min 5 (n .value)) s (n .next)
+  accepted (record { base = record { n = n .value; r = r .value }; next = r .next })
 
 -- the two numbers of each of `left` layers, where the sizes may still sum to `room`
 unfoldable pub readLayers : LayerLimits → (left room : ℕ) → List ℕ → (at : ℕ) → Checked LayerHeads
@@ -101,25 +125,38 @@ firstOf none size (some i) = some (size + i)
 unfoldable pub firstCrowdedOf : (x : ℕ) → List Layer → Option ℕ
 firstCrowdedOf x [] = none
 firstCrowdedOf x (layer ∷ layers) =
-    firstOf (firstCrowded x (layer .bound) (layer .rows)) (size layer) (firstCrowdedOf (suc x) layers)
+    firstOf (firstCrowded x (layer .bound) (layer .rows)) (length (layer .rows)) (firstCrowdedOf (suc x) layers)
 
 -- the refusal for the row that was found, if any: "the row's start"
 abbrev pub refuseRow : (refusal : ℕ → Refusal) (r at : ℕ) → Option ℕ → Checked Unit
 refuseRow refusal r at none = accepted tt
 refuseRow refusal r at (some i) = refused (refusal (at + i * r))
 
--- "Then 1 or 5 for the rows' total length, then 6 over all rows, then 7": the layers whose rows start at `at`
-unfoldable pub checkRows : (n r : ℕ) → List LayerHead → List ℕ → (at : ℕ) → Checked (List Layer)
-checkRows n r heads s at =
-    let end = at + sizes heads * r in
-    let layers = layersAt r heads (drop at s) in
-    do
-      _ ← require (leb end (length s)) (Ended (length s))
-      _ ← require (leb (length s) end) (Trailing end)
-      _ ← refuseRow BadRow r at (firstBad n (allRows layers))
-      _ ← refuseRow Crowded r at (firstCrowdedOf 0 layers)
-      accepted layers
+-- refusal 1: "the input ends .. before the last row's end"
+unfoldable pub checkLength : List ℕ → (end : ℕ) → Checked Unit
+checkLength s end = require (leb end (length s)) (Ended (length s))
 
--- a number for each layer, as the code's array for up to five layers
-abbrev pub five : List ℕ → List ℕ
-five l = take 5 (l ++ replicate 5 0)
+-- refusal 5: "bytes after the last row", at "the first of them"
+unfoldable pub checkEnd : List ℕ → (end : ℕ) → Checked Unit
+checkEnd s end = require (leb (length s) end) (Trailing end)
+
+-- refusal 6: "a row not ascending or with a node at or above n", at "the row's start"; the first row is at `at`
+unfoldable pub checkAscending : Base → (at : ℕ) → List (List ℕ) → Checked Unit
+checkAscending base at rows = refuseRow BadRow (base .r) at (firstBad (base .n) rows)
+
+-- refusal 7: "x+1 nodes together in too many rows of layer x", at "the start of the first row in the file that holds such a
+-- set of its own layer"
+unfoldable pub checkPackings : (r at : ℕ) → List Layer → Checked Unit
+checkPackings r at layers = refuseRow Crowded r at (firstCrowdedOf 0 layers)
+
+-- "Then 1 or 5 for the rows' total length, then 6 over all rows, then 7": the layers whose rows start at `at`
+unfoldable pub checkRows : Base → List LayerHead → List ℕ → (at : ℕ) → Checked (List Layer)
+checkRows base heads s at =
+    let end = at + sizes heads * base .r in
+    let layers = layersAt (base .r) heads (drop at s) in
+    do
+      _ ← checkLength s end
+      _ ← checkEnd s end
+      _ ← checkAscending base at (allRows layers)
+      _ ← checkPackings (base .r) at layers
+      accepted layers

@@ -1,2 +1,4 @@
 pub mod Layers
 pub mod Answers
+pub mod Asked
+pub mod Meaning

@@ -1,27 +1,37 @@
-// What reading heads and checking rows gives, which packs and placements share.
-use refusal::Refusal;
+// What packs and placements share: what reading their heads and checking their rows gives.
+use refusal::Verdict;
 
-// What reading one layer's two numbers gives: its bound, its size and the next place, or the refusal.
-pub enum LayerRead {
-    Numbers(usize, usize, usize),
-    Refused(Refusal),
+// What every file has after its kind: n nodes and r replicas.
+pub struct Base {
+    pub n: usize,
+    pub r: usize,
 }
 
-// What reading the two numbers of every layer gives: the next place, or the refusal.
-pub enum HeadsAnswer {
-    Next(usize),
-    Refused(Refusal),
+// What reading the kind, n and r gives, with the next place; all numbers are 0 beside a refusal.
+pub struct BaseRead {
+    pub verdict: Verdict,
+    pub base: Base,
+    pub next: usize,
 }
 
-// The answer, with the bound and the size of each layer; entries past the layers are 0, and so are all beside a refusal.
+// A layer's two numbers in the head: its bound (mu or lambda) and its size (m or c).
+pub struct LayerHead {
+    pub bound: usize,
+    pub size: usize,
+}
+
+// The limits of a layer's two numbers: the bound is from `lo` to `hi`; the sizes so far sum to at most a limit, and, where
+// `full`, the last must equal what is left of it.
+pub struct LayerLimits {
+    pub lo: usize,
+    pub hi: usize,
+    pub full: bool,
+}
+
+// What reading the two numbers of every layer gives, with the next place; entries past the layers are 0, and so are all
+// numbers beside a refusal.
 pub struct LayersRead {
-    pub answer: HeadsAnswer,
-    pub bound: [usize; 5],
-    pub size: [usize; 5],
-}
-
-// What checking the rows gives: they are good, or the refusal.
-pub enum RowsAnswer {
-    Good,
-    Refused(Refusal),
+    pub verdict: Verdict,
+    pub heads: [LayerHead; 5],
+    pub next: usize,
 }

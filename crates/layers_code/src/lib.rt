@@ -1,25 +1,29 @@
-// Checking the rows of all layers: their length, their order and the packing test.
-mod crowding;
+// Checking the rows of all layers, in steps: their length, their end, their order and the packing test.
+mod ascending;
+mod packings;
+mod place;
 
-use layers::RowsAnswer;
-use packing::RowFound;
+use ascending::check_ascending;
+use layers::Base;
+use layers::LayerHead;
+use packings::check_packings;
 use refusal::Refusal;
+use refusal::Verdict;
 ghost use mathlib.Core.Path.{_≡_};
 ghost use Prim.Native.Nat.{_≤_};
 ghost use lib.ListN.{length, take};
-ghost use Rattle.lists.specs.Lists.{total};
+ghost use Rattle.refusal.specs.Checked.{verdict};
 ghost use Rattle.layers.specs.Layers.{sizes, checkRows};
-ghost use Rattle.layers.specs.Answers.{arrayHeads, rowsAnswer};
 
-// How many rows the layers have.
-fn count_rows(layers: usize, size: [usize; 5]) -> usize
-    requires { ⌜ (layers ≤ 5) × (total (take layers size) ≤ 4096) ⌝ }
-    ensures { λ r. ⌜ r ≡ total (take layers size) ⌝ }
+// How many rows the first layers have.
+fn count_rows(layers: usize, heads: [LayerHead; 5]) -> usize
+    requires { ⌜ (layers ≤ 5) × (sizes (take layers heads) ≤ 4096) ⌝ }
+    ensures { λ r. ⌜ r ≡ sizes (take layers heads) ⌝ }
 {
     let mut sum: usize = 0;
     let mut x: usize = 0;
     while x < layers {
-        sum += size[x];
+        sum += heads[x].size;
         x += 1;
     }
     sum
@@ -29,28 +33,26 @@ fn count_rows(layers: usize, size: [usize; 5]) -> usize
 pub fn check_rows(
     bytes: &[u8],
     at: usize,
-    n: usize,
-    r: usize,
+    base: Base,
     layers: usize,
-    bound: [usize; 5],
-    size: [usize; 5],
-) -> RowsAnswer
-    requires { ⌜ (layers ≤ r) × (r ≤ 5) × (at ≤ length (now bytes)) ⌝ }
-    requires { ⌜ sizes (arrayHeads layers bound size) ≤ 4096 ⌝ }
-    ensures { λ answer. ⌜ answer
-        ≡ rowsAnswer (checkRows n r (arrayHeads layers bound size) (now (bytes .entry)) at) ⌝ }
+    heads: [LayerHead; 5],
+) -> Verdict
+    requires { ⌜ (layers ≤ base .r) × (base .r ≤ 5) × (at ≤ length (now bytes)) ⌝ }
+    requires { ⌜ sizes (take layers heads) ≤ 4096 ⌝ }
+    ensures { λ answer. ⌜ answer ≡ verdict (checkRows base (take layers heads) (now (bytes .entry)) at) ⌝ }
 {
-    let rows = count_rows(layers, size);
+    let r = base.r;
+    let rows = count_rows(layers, heads);
     let end = at + rows * r;
     if bytes.len() < end {
-        return RowsAnswer::Refused(Refusal::Ended(bytes.len()));
+        return Verdict::Refused(Refusal::Ended(bytes.len()));
     }
     if end < bytes.len() {
-        return RowsAnswer::Refused(Refusal::Trailing(end));
+        return Verdict::Refused(Refusal::Trailing(end));
     }
-    let bad = rows_code::first_bad(&bytes[at..], rows, r, n);
-    if let RowFound::At(row) = bad {
-        return RowsAnswer::Refused(Refusal::BadRow(at + row.0 * r));
+    let order = check_ascending(bytes, at, base, rows);
+    if let Verdict::Refused(e) = order {
+        return Verdict::Refused(e);
     }
-    crate::crowding::check_layers(bytes, at, r, layers, bound, size)
+    check_packings(bytes, at, r, layers, heads)
 }

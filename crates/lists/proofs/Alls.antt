@@ -1,9 +1,11 @@
 -- What holds of every element of a list. Assumes nothing.
-use Prim.Native.Nat.{ℕ, zero, suc, _<_, suc-le-suc}
-use native.Mathlib.Nat.{not-suc-le-zero, le-of-suc-le-suc, zero-lt-suc}
+use Prim.Native.Nat.{ℕ, zero, suc, _*_, _<_, suc-le-suc}
+use native.Mathlib.Omega.{arith}
+use native.Mathlib.Nat.{not-suc-le-zero, le-of-suc-le-suc, zero-lt-suc, suc-mul}
+use mathlib.Core.Path.{_≡_, _∙_}
 use mathlib.Core.Bool.{Bool}
 use mathlib.Core.List.{List, [], _∷_, _++_, map, flatten}
-use lib.ListN.{length, getD, take, drop}
+use lib.ListN.{length, getD, take, drop, length-append}
 use lib.Dec.{T}
 use Rattle.lists.specs.Lists.{All, every}
 use Rattle.lists.proofs.Tests.{and-left, and-right, and-both}
@@ -48,6 +50,12 @@ module _ {A : Type 0} where
   all-getD P (a ∷ l) zero d h lt = h .0
   all-getD P (a ∷ l) (suc i) d h lt = all-getD P l i d (h .1) (le-of-suc-le-suc lt)
 
+  -- past the end too, where it holds of the default
+  pub all-getD-default : (P : A → Type 0) (l : List A) (i : ℕ) (d : A) → P d → All P l → P (getD l i d)
+  all-getD-default P [] i d z h = z
+  all-getD-default P (a ∷ l) zero d z h = h .0
+  all-getD-default P (a ∷ l) (suc i) d z h = all-getD-default P l i d z (h .1)
+
   pub getD-all : (P : A → Type 0) (d : A) (l : List A) → ((i : ℕ) → i < length l → P (getD l i d)) → All P l
   getD-all P d [] h = tt
   getD-all P d (a ∷ l) h = (h zero (zero-lt-suc _), getD-all P d l (λ i lt. h (suc i) (suc-le-suc lt)))
@@ -56,6 +64,13 @@ module _ {A : Type 0} where
   unfolding flatten
   all-flatten P [] h = tt
   all-flatten P (l ∷ ls) h = all-append P l (flatten ls) (h .0) (all-flatten P ls (h .1))
+
+  -- lists of r elements each, one after another
+  pub length-flatten : (r : ℕ) (ls : List (List A)) → All (λ l. length l ≡ r) ls → length (flatten ls) ≡ length ls * r
+  unfolding flatten
+  length-flatten r [] h = omega arith
+  length-flatten r (l ∷ ls) h =
+      length-append l (flatten ls) ∙ rw (h .0, length-flatten r ls (h .1), suc-mul) (omega arith)
 
   pub all-take : (P : A → Type 0) (n : ℕ) (l : List A) → All P l → All P (take n l)
   all-take P zero l h = tt

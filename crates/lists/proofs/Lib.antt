@@ -1,3 +1,4 @@
+pub mod Arith
 pub mod Tests
 pub mod Counts
 pub mod Alls

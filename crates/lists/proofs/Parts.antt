@@ -1,12 +1,12 @@
 -- Parts of lists: from a place on, and between two places; elements of an array of zeros. Assumes nothing.
-use Prim.Native.Nat.{ℕ, zero, suc, _+_, _-_, _<_, suc-le-suc}
+use Prim.Native.Nat.{ℕ, zero, suc, _+_, _-_, _≤_, _<_, suc-le-suc}
 use native.Mathlib.Nat.{zero-lt-suc, sub-zero, zero-sub, suc-sub-suc}
 use native.Mathlib.Numerals.{add-one}
 use native.Mathlib.Omega.{arith}
 use mathlib.Core.Path.{_≡_, refl, sym, _∙_, ap}
 use mathlib.Core.List.{List, [], _∷_}
-use lib.ListN.{length, getD, take, drop, replicate}
-use lib.Seq.{slice, take-nil, drop-nil, drop-cons}
+use lib.ListN.{length, getD, take, drop, replicate, length-replicate, replicate-append-replicate}
+use lib.Seq.{slice, take-nil, drop-nil, drop-cons, take-at, drop-at}
 
 module _ {A : Type 0} where
   -- a list from place i on that has a first element: i is a place of the list, and that element stands there
@@ -32,6 +32,16 @@ module _ {A : Type 0} where
   slice-eq-take-drop (suc f) zero l = rw zero-sub
   slice-eq-take-drop (suc f) (suc t) [] = sym (take-nil (suc t - suc f))
   slice-eq-take-drop (suc f) (suc t) (a ∷ l) = rw suc-sub-suc (slice-eq-take-drop f t l)
+
+  -- as many of the same elements from the front as from the back
+  pub take-replicate : (n k : ℕ) (a : A) → n ≤ k → take (k - n) (replicate k a) ≡ drop n (replicate k a)
+  take-replicate n k a h =
+      let front : k - n + n ≡ k = omega arith in
+      let back : n + (k - n) ≡ k = omega arith in
+      ap (λ (l : List A). take (k - n) l) (sym (replicate-append-replicate (k - n) n a ∙ ap (λ m. replicate m a) front))
+      ∙ take-at (replicate (k - n) a) (replicate n a) (k - n) (length-replicate (k - n) a)
+      ∙ sym (drop-at (replicate n a) (replicate (k - n) a) n (length-replicate n a))
+      ∙ ap (λ (l : List A). drop n l) (replicate-append-replicate n (k - n) a ∙ ap (λ m. replicate m a) back)
 
 pub getD-zeros : (n i : ℕ) → _≡_ {A = ℕ} (getD (replicate n 0) i 0) 0
 getD-zeros zero i = refl

@@ -1,7 +1,7 @@
 -- A Bool as a test that passed: between `T b`, `b ≡ true` and its parts. Assumes nothing.
 use mathlib.Core.Path.{_≡_, refl, sym, subst}
 use mathlib.Core.Logic.{_⊎_, inl, inr}
-use mathlib.Core.Bool.{Bool, true, false, cond, _&&_, _||_}
+use mathlib.Core.Bool.{Bool, true, false, not, cond, _&&_, _||_}
 use lib.Dec.{T}
 
 pub T-true : {b : Bool} → b ≡ true → T b
@@ -17,6 +17,10 @@ false-T e t = subst T e t
 pub T-not-false : (b : Bool) → (T b → ⊥) → b ≡ false
 T-not-false true n = absurd (n tt)
 T-not-false false n = refl
+
+pub T-not : (b : Bool) → T b → not b ≡ false
+T-not true t = refl
+T-not false t = absurd t
 
 -- a conjunction's parts
 pub and-left : (a b : Bool) → T (a && b) → T a
@@ -43,6 +47,10 @@ or-right false b t = t
 pub or-cases : (a b : Bool) → T (a || b) → T a ⊎ T b
 or-cases true b t = inl tt
 or-cases false b t = inr t
+
+pub or-eq-false : (a b : Bool) → (a || b) ≡ false → (a ≡ false) × (b ≡ false)
+or-eq-false true b e = absurd (false-T e tt)
+or-eq-false false b e = (refl, e)
 
 -- two tests that pass together are equal
 pub bool-ext : (a b : Bool) → (T a → T b) → (T b → T a) → a ≡ b

@@ -1,12 +1,12 @@
 -- The numbers below n, and lists made from them. Assumes nothing.
 use Prim.Native.Nat.{ℕ, zero, suc, _<_, _≤_}
 use native.Mathlib.Omega.{arith}
-use native.Mathlib.Nat.{not-suc-le-zero, le-of-suc-le-suc, eq-or-lt-of-le}
+use native.Mathlib.Nat.{not-suc-le-zero, le-of-suc-le-suc, le-refl, eq-or-lt-of-le}
 use mathlib.Core.Path.{_≡_, refl, sym, _∙_, ap, subst}
 use mathlib.Core.Logic.{⊎-elim}
 use mathlib.Core.List.{List, [], _∷_, _++_, map, map-append}
 use lib.ListN.{length, getD, take, length-append, length-map, List·getD-append}
-use lib.Seq.{getD-at, take-suc}
+use lib.Seq.{getD-at, take-suc, take-length}
 use Rattle.lists.specs.Lists.{All, upTo}
 use Rattle.lists.proofs.Alls.{all-append}
 
@@ -61,3 +61,8 @@ module _ {A : Type 0} where
         e n (omega arith),
         map-upTo-suc f n,
       )
+
+  -- a list's elements in order are the list
+  pub map-getD-upTo : (l : List A) (d : A) (n : ℕ) → length l ≡ n → map (λ i. getD l i d) (upTo n) ≡ l
+  map-getD-upTo l d n e =
+      rw (← e) (sym (take-map-upTo (λ i. getD l i d) l d (length l) (le-refl _) (λ i lt. refl)) ∙ take-length l)

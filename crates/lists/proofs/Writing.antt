@@ -7,6 +7,7 @@ use mathlib.Core.Path.{_≡_, sym, ap, _∙_}
 use mathlib.Core.List.{List, _∷_, _++_, append-assoc, append-nil}
 use lib.ListN.{length, getD, take, drop, set, length-drop, drop-of-length-le}
 use lib.Seq.{set-at, append-snoc, take-suc, take-suc-set, take-all, take-at, drop-at, drop-cons, drop-drop, length-take-le}
+use Rattle.lists.specs.Lists.{overStart}
 
 module _ {A : Type 0} where
   -- the next element stored: what is written and what is left make the same list
@@ -24,21 +25,25 @@ module _ {A : Type 0} where
       ∙ sym (append-snoc (take j s) (getD s j z) (drop (suc j) d)))
 
   -- all of s is copied
-  pub take-append-drop-all : (s d : List A) (j : ℕ) → j ≡ length s → take j s ++ drop j d ≡ s ++ drop (length s) d
+  pub take-append-drop-all : (s d : List A) (j : ℕ) → j ≡ length s → take j s ++ drop j d ≡ overStart s d
   take-append-drop-all s d j e = rw e (ap (λ (l : List A). l ++ drop (length s) d) (take-all (length s) s (omega arith)))
 
-  -- a part from place `at` to the end, lent and given back as `last`
+  -- what a list is after its part from place `at` on was lent and given back as `last`
+  abbrev pub givenBack : (l : List A) (at : ℕ) (last : List A) → List A
+  givenBack l at last = take at l ++ (last ++ drop (length l - at) (drop at l))
+
+  -- the part that is lent
   pub take-drop-rest : (l : List A) (at : ℕ) → take (length l - at) (drop at l) ≡ drop at l
   take-drop-rest l at = take-all (length l - at) (drop at l) (le-of-eq (length-drop at l))
 
-  pub append-rest : (l last : List A) (at : ℕ) → take at l ++ (last ++ drop (length l - at) (drop at l)) ≡ take at l ++ last
+  pub append-rest : (l last : List A) (at : ℕ) → givenBack l at last ≡ take at l ++ last
   append-rest l last at =
       rw (drop-of-length-le (drop at l) {i = length l - at} (le-of-eq (length-drop at l)), append-nil last)
 
   -- to a list that begins with p and is the old one from place `at` on, `part` is written at that place
   pub write-part : (p part old l last : List A) (at : ℕ) → length p ≡ at → l ≡ p ++ drop at old
-      → last ≡ part ++ drop (length part) (take (length l - at) (drop at l))
-      → take at l ++ (last ++ drop (length l - at) (drop at l)) ≡ p ++ part ++ drop (at + length part) old
+      → last ≡ overStart part (take (length l - at) (drop at l))
+      → givenBack l at last ≡ p ++ part ++ drop (at + length part) old
   write-part p part old l last at e l≡ last≡ =
       append-rest l last at
       ∙ rw (last≡, take-drop-rest l at, l≡, take-at p (drop at old) at e, drop-at p (drop at old) at e)

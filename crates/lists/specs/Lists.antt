@@ -3,6 +3,7 @@ use Prim.Native.Nat.{ℕ, zero, suc, _+_, max}
 use mathlib.Core.Bool.{Bool, true, false, cond, _&&_, _||_}
 use mathlib.Core.List.{List, [], _∷_, _++_}
 use mathlib.Core.Option.{Option, none, some}
+use lib.ListN.{length, drop}
 
 -- one more than n where the test passed
 abbrev pub tally : Bool → ℕ → ℕ
@@ -39,6 +40,10 @@ module _ {A : Type 0} where
   unfoldable pub firstWhere : (A → Bool) → List A → Option ℕ
   firstWhere f [] = none
   firstWhere f (a ∷ l) = cond (f a) (some 0) (later (firstWhere f l))
+
+  -- the slice with these elements at its start, and the others as they were
+  abbrev pub overStart : (elements slice : List A) → List A
+  overStart elements slice = elements ++ drop (length elements) slice
 
 -- the sum
 unfoldable pub total : List ℕ → ℕ

@@ -14,7 +14,8 @@ use borrow.Author.Tests.{ltb-true, leb-true, leb-false, eqb-true, lt-ltb, le-leb
 use Rattle.refusal.specs.declared.Refusal.{Refusal}
 use Rattle.refusal.specs.declared.Refusal.the-variants.{Ended, Malformed}
 use Rattle.refusal.specs.Checked.{Checked, accepted, refused}
-use Rattle.number.specs.Numbers.{Bytes, Reading, groups, readGroups}
+use Rattle.number.specs.Numbers.{Bytes, groups, readGroups}
+use Rattle.number.specs.declared.Reading.{Reading}
 use Rattle.lists.proofs.Tests.{cond-elim}
 use Rattle.lists.proofs.Alls.{all-getD}
 use Rattle.lists.proofs.Parts.{lt-of-drop-cons, getD-of-drop-cons, drop-suc-of-drop-cons}

@@ -8,24 +8,30 @@ use borrow.Author.Tests.{le-leb, lt-leb, leb-true}
 use Rattle.refusal.specs.declared.Refusal.{Refusal}
 use Rattle.refusal.specs.declared.Refusal.the-variants.{OutsideLimits}
 use Rattle.refusal.specs.Checked.{Checked, accepted, refused, _>>=_, require}
-use Rattle.number.specs.Numbers.{Reading, readNumber, readWithin}
-use Rattle.number.specs.Answers.{numberRead}
+use Rattle.number.specs.Numbers.{readNumber, readWithin}
+use Rattle.number.specs.declared.Reading.{Reading}
+use Rattle.number.specs.Answers.{numberRead, refusalOf}
 use Rattle.number.specs.declared.NumberRead.{NumberRead}
 use Rattle.number.specs.declared.NumberRead.the-variants.{Value, Refused}
 use Rattle.refusal.proofs.Checked.{accepted-injective, refused-not-accepted}
 
 -- the code's answer says what was read
-pub numberRead-value : (r : Checked Reading) {v next : ℕ} → Value v next ≡ numberRead r
-    → r ≡ accepted (record { value = v; next = next })
-numberRead-value (accepted n) {v} {next} e =
-    let value : n .value ≡ v = cc in
-    let place : n .next ≡ next = cc in
-    λ i. accepted (record { value = value i; next = place i })
+pub numberRead-value : (r : Checked Reading) {n : Reading} → Value n ≡ numberRead r → r ≡ accepted n
+numberRead-value (accepted n) e = cc
 numberRead-value (refused why) e = cc
 
 pub numberRead-refused : (r : Checked Reading) {why : Refusal} → Refused why ≡ numberRead r → r ≡ refused why
 numberRead-refused (accepted n) e = cc
 numberRead-refused (refused why) e = cc
+
+-- what a number that was read, and one that was not, say of the check
+pub was-read : (m : Checked Reading) {read : NumberRead} {n : Reading} → read ≡ numberRead m → read ≡ Value n
+    → m ≡ accepted n
+was-read m is e = numberRead-value m (sym e ∙ is)
+
+pub was-refused : (m : Checked Reading) {read : NumberRead} {why e : Refusal} → read ≡ numberRead m → read ≡ Refused why
+    → e ≡ refusalOf read → m ≡ refused e
+was-refused m is w k = numberRead-refused m (sym w ∙ is) ∙ ap refused (sym (k ∙ ap refusalOf w))
 
 module _ (lo hi : ℕ) (s : List ℕ) (at : ℕ) where
   pub readWithin-refused : (why : Refusal) → readNumber s at ≡ refused why → readWithin lo hi s at ≡ refused why
@@ -73,15 +79,15 @@ module _ (lo hi : ℕ) (s : List ℕ) (at : ℕ) where
     answer-refused {why} e =
         e ∙ sym (ap numberRead (readWithin-refused why (numberRead-refused (readNumber s at) (sym e ∙ is))))
 
-    module _ {v next : ℕ} (e : first ≡ Value v next) where
-      read : readNumber s at ≡ accepted (record { value = v; next = next })
+    module _ {n : Reading} (e : first ≡ Value n) where
+      read : readNumber s at ≡ accepted n
       read = numberRead-value (readNumber s at) (sym e ∙ is)
 
-      pub answer-below : v < lo → Refused (OutsideLimits at) ≡ numberRead (readWithin lo hi s at)
+      pub answer-below : n .value < lo → Refused (OutsideLimits at) ≡ numberRead (readWithin lo hi s at)
       answer-below below = sym (ap numberRead (readWithin-below read below))
 
-      pub answer-above : lo ≤ v → hi < v → Refused (OutsideLimits at) ≡ numberRead (readWithin lo hi s at)
+      pub answer-above : lo ≤ n .value → hi < n .value → Refused (OutsideLimits at) ≡ numberRead (readWithin lo hi s at)
       answer-above low above = sym (ap numberRead (readWithin-above read low above))
 
-      pub answer-within : lo ≤ v → v ≤ hi → Value v next ≡ numberRead (readWithin lo hi s at)
+      pub answer-within : lo ≤ n .value → n .value ≤ hi → Value n ≡ numberRead (readWithin lo hi s at)
       answer-within low high = sym (ap numberRead (readWithin-accepted read low high))

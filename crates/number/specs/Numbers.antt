@@ -2,12 +2,13 @@
 use Prim.Native.Nat.{ℕ, zero, suc, _+_, _*_, _-_, _/_, _%_, _≤_, _<_}
 use mathlib.Core.Path.{_≡_}
 use mathlib.Core.Bool.{cond, _&&_}
-use mathlib.Core.List.{List, [], _∷_, _++_}
+use mathlib.Core.List.{List, [], _∷_, _++_, map, flatten}
 use lib.ListN.{length, getD}
 use lib.Dec.{leb, ltb, eqb}
 use Rattle.lists.specs.Lists.{All}
 use Rattle.refusal.specs.declared.Refusal.the-variants.{Ended, Malformed, OutsideLimits, ShortOutput}
 use Rattle.refusal.specs.Checked.{Checked, accepted, refused, _>>=_, require}
+use Rattle.number.specs.declared.Reading.{Reading}
 
 -- "The largest is 268,435,455."
 abbrev pub largestNumber : ℕ
@@ -36,14 +37,14 @@ abbrev pub Forms : List ℕ → List ℕ → Type 0
 Forms [] f = f ≡ []
 Forms (v ∷ vs) f = (g : List ℕ) × (h : List ℕ) × (f ≡ g ++ h) × Form v g × Forms vs h
 
--- "A number read is either its value with the next place, or a refusal."
-pub record Reading : Type 0 where
-  pub value : ℕ
-  pub next : ℕ
+-- the shortest forms of the numbers one after another
+abbrev pub formsOf : List ℕ → List ℕ
+formsOf numbers = flatten (map numberBytes numbers)
 
--- Reading the number that starts at `start`: its next group is at `at`, `left` more groups may come, that group counts
--- `weight` times, and the groups before it make `sum`. Refusal 1: "the input ends inside a number". Refusal 2: "four
--- groups all with the top bit set, or a zero last group after another".
+-- "A number read is either its value with the next place, or a refusal." Reading the number that starts at `start`: its
+-- next group is at `at`, `left` more groups may come, that group counts `weight` times, and the groups before it make `sum`.
+-- Refusal 1: "the input ends inside a number". Refusal 2: "four groups all with the top bit set, or a zero last group after
+-- another".
 unfoldable pub readGroups : (left : ℕ) → List ℕ → (start at weight sum : ℕ) → Checked Reading
 readGroups zero s start at weight sum = refused (Malformed start)
 readGroups (suc left) s start at weight sum =

@@ -1,9 +1,15 @@
 // What reading and writing numbers of one to four groups of seven bits gives.
 use refusal::Refusal;
 
-// What reading a number gives: its value and the next place, or the refusal.
+// A number that was read, and the next place.
+pub struct Reading {
+    pub value: usize,
+    pub next: usize,
+}
+
+// What reading a number gives: its value with the next place, or the refusal.
 pub enum NumberRead {
-    Value(usize, usize),
+    Value(Reading),
     Refused(Refusal),
 }
 

@@ -1,5 +1,6 @@
 // Reading numbers of one to four groups of seven bits.
 use number::NumberRead;
+use number::Reading;
 use refusal::Refusal;
 ghost use mathlib.Core.Path.{_≡_};
 ghost use Rattle.number.specs.Numbers.{readNumber};
@@ -22,7 +23,10 @@ pub fn read_number(bytes: &[u8], at: usize) -> NumberRead
             if byte == 0 && at < place {
                 return NumberRead::Refused(Refusal::Malformed(at));
             }
-            return NumberRead::Value(sum + weight * byte, place + 1);
+            return NumberRead::Value(Reading {
+                value: sum + weight * byte,
+                next: place + 1,
+            });
         }
         sum += weight * (byte - 128);
         weight *= 128;

@@ -1,3 +1,4 @@
 pub mod Accepted
 pub mod Prefix
 pub mod Worked
+pub mod Meaning

@@ -4,21 +4,25 @@ use mathlib.Core.Path.{_≡_, refl}
 use mathlib.Core.List.{List, [], _∷_, _++_, flatten}
 use lib.ListN.{length}
 use Rattle.lists.specs.Lists.{count, every, any, firstWhere, total}
-use Rattle.refusal.specs.declared.Refusal.the-variants.{WrongKind, OutsideLimits, Crowded}
+use Rattle.refusal.specs.declared.Refusal.the-variants.{WrongKind, OutsideLimits}
+use Rattle.refusal.specs.Refusals.{result, refusal}
 use Rattle.refusal.specs.Checked.{Checked, accepted, refused, mapAccepted}
 use Rattle.number.specs.Numbers.{readGroups, readNumber, readWithin}
 use Rattle.packing.specs.Rows.{ascending, rowsAt, member, holds, together, subsets, crowded, firstCrowded, firstBad}
 use Rattle.packing.specs.SevenCabinets.{row245}
-use Rattle.layers.specs.Layers.{readKind, readLayers, layersAt, firstCrowdedOf, checkRows}
-use Rattle.pack.specs.Pack.{checkPack}
+use Rattle.layers.specs.Layers.{headNumbers, readKind, readLayers, layersAt, firstCrowdedOf, readBase, checkLength, checkEnd, checkAscending, checkPackings, checkRows}
+use Rattle.pack.specs.Pack.{readPack, checkPack}
+use Rattle.pack.specs.Answers.{packChecked, packOutcome}
 use Rattle.pack.specs.SevenCabinets.{packBytes, sevenPack}
 
 -- "Its 36 bytes are accepted." "P's layer 1 with its last row 246: refusal 7, place 27 (row 146 shares 4 and 6 with it)."
 pub packs : (length (packBytes row245) ≡ 36)
     × (checkPack (packBytes row245) ≡ accepted sevenPack)
-    × (checkPack (packBytes (2 ∷ 4 ∷ 6 ∷ [])) ≡ refused (Crowded 27))
-unfolding count every any firstWhere total flatten readGroups readNumber readWithin ascending rowsAt member holds together subsets crowded firstCrowded firstBad readKind readLayers layersAt firstCrowdedOf checkRows checkPack packBytes sevenPack
-packs = (refl, refl, refl)
+    × (packOutcome (packChecked (readPack (packBytes row245)))
+    ≡ result (7 ∷ 3 ∷ 9 ∷ 1 ∷ 2 ∷ 1 ∷ 7 ∷ 1 ∷ 0 ∷ 0 ∷ 0 ∷ 0 ∷ 0 ∷ []))
+    × (packOutcome (packChecked (readPack (packBytes (2 ∷ 4 ∷ 6 ∷ [])))) ≡ refusal 7 27)
+unfolding count every any firstWhere total flatten readGroups readNumber readWithin ascending rowsAt member holds together subsets crowded firstCrowded firstBad readKind readLayers layersAt firstCrowdedOf checkLength checkEnd checkAscending checkPackings checkRows readBase readPack checkPack packBytes sevenPack headNumbers
+packs = (refl, refl, refl, refl)
 
 -- the nodes of a pack without blocks whose n has these bytes
 abbrev pub nodesOf : List ℕ → Checked ℕ
@@ -30,5 +34,5 @@ pub pack-edges : (nodesOf (255 ∷ 1 ∷ []) ≡ accepted 255)
     × (nodesOf (2 ∷ []) ≡ accepted 2)
     × (nodesOf (1 ∷ []) ≡ refused (OutsideLimits 1))
     × (checkPack (2 ∷ 7 ∷ []) ≡ refused WrongKind)
-unfolding count every any firstWhere total flatten readGroups readNumber readWithin firstBad readKind readLayers layersAt firstCrowdedOf checkRows checkPack firstCrowded rowsAt
+unfolding count every any firstWhere total flatten readGroups readNumber readWithin firstBad readKind readLayers layersAt firstCrowdedOf checkLength checkEnd checkAscending checkPackings checkRows readBase readPack checkPack firstCrowded rowsAt
 pack-edges = (refl, refl, refl, refl, refl)

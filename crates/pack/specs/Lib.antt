@@ -1,4 +1,3 @@
 pub mod Pack
 pub mod Answers
-pub mod Stages
 pub mod SevenCabinets

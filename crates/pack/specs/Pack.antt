@@ -1,14 +1,14 @@
 -- Document 01, "Pack". Assumes nothing.
-use Prim.Native.Nat.{ℕ, _≤_, min}
+use Prim.Native.Nat.{ℕ, _≤_}
 use mathlib.Core.Path.{_≡_}
 use mathlib.Core.Bool.{false}
-use mathlib.Core.List.{List, _∷_}
+use mathlib.Core.List.{List, [], _∷_}
 use lib.ListN.{length}
 use Rattle.lists.specs.Lists.{All}
-use Rattle.refusal.specs.Checked.{Checked, accepted, _>>=_}
-use Rattle.number.specs.Numbers.{Reading, readWithin}
+use Rattle.refusal.specs.Checked.{Checked, accepted, _>>=_, mapAccepted}
 use Rattle.packing.specs.Rows.{Row}
-use Rattle.layers.specs.Layers.{Layer, allRows, Packings, headsOf, headNumbers, sizes, File, LayerLimits, LayerHeads, readKind, readLayers, checkRows}
+use Rattle.layers.specs.Layers.{Layer, allRows, Packings, headsOf, headNumbers, sizes, File, Located, BaseLimits, readBase, readLayers, checkRows}
+use Rattle.layers.specs.declared.LayerLimits.{LayerLimits}
 
 -- n nodes, r replicas, and for each x from 0 to r-1 a layer of blocks with its mu
 pub record Pack : Type 0 where
@@ -22,15 +22,11 @@ packNumbers p = 1 ∷ p .n ∷ p .r ∷ headNumbers (headsOf (p .layers))
 
 -- "then m rows (blocks) for x = 0, m for x = 1, and so on; then the end"
 abbrev pub PackFile : Pack → List ℕ → Type 0
-PackFile p bytes = File (packNumbers p) (p .layers) bytes
+PackFile p bytes = File (packNumbers p) (p .layers) [] bytes
 
 -- "Limits: n 2..255; r 2..5 and at most n"; "mu (1..4,096) and m (0..4,096, the m's so far summing to at most 4,096)"
 pub record PackLimits (p : Pack) : Type 0 where
-  pub n-least : 2 ≤ p .n
-  pub n-most : p .n ≤ 255
-  pub r-least : 2 ≤ p .r
-  pub r-most : p .r ≤ 5
-  pub r-nodes : p .r ≤ p .n
+  pub base : BaseLimits (p .n) (p .r)
   pub layer-each : length (p .layers) ≡ p .r
   pub mu-limits : All (λ layer. (1 ≤ layer .bound) × (layer .bound ≤ 4_096)) (p .layers)
   pub blocks-most : sizes (headsOf (p .layers)) ≤ 4_096
@@ -44,12 +40,15 @@ pub record GoodPack (p : Pack) : Type 0 where
 abbrev pub packLayerLimits : LayerLimits
 packLayerLimits = record { lo = 1; hi = 4_096; full = false }
 
--- "Head numbers are checked in file order", then the rows: the pack, or the refusal
+-- "Head numbers are checked in file order", then the rows: the pack with the place of its first block, or the refusal
+unfoldable pub readPack : List ℕ → Checked (Located Pack)
+readPack s = do
+  head ← readBase 1 s
+  numbers ← readLayers packLayerLimits (head .base .r) 4_096 s (head .next)
+  layers ← checkRows (head .base) (numbers .heads) s (numbers .next)
+  accepted
+      (record { content = record { n = head .base .n; r = head .base .r; layers = layers }; first = numbers .next })
+
+-- the pack, or the refusal
 unfoldable pub checkPack : List ℕ → Checked Pack
-checkPack s = do
-  kind ← readKind 1 s
-  n ← readWithin 2 255 s (kind .next)
-  r ← readWithin 2 (min 5 (n .value)) s (n .next)
-  head ← readLayers packLayerLimits (r .value) 4_096 s (r .next)
-  layers ← checkRows (n .value) (r .value) (head .heads) s (head .next)
-  accepted (record { n = n .value; r = r .value; layers = layers })
+checkPack s = mapAccepted (λ file. file .content) (readPack s)

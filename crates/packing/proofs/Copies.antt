@@ -2,13 +2,13 @@
 -- are a packing with d times the bound. Assumes nothing.
 use Prim.Native.Nat.{ℕ, zero, suc, _+_, _*_, _%_, _≤_, _<_}
 use native.Mathlib.Omega.{arith}
-use native.Mathlib.Nat.{le-trans, zero-mul, suc-mul, mod-lt, mod-eq-of-lt, mul-add-mod-self-right, mul-le-mul-left, eq-zero-or-pos}
+use native.Mathlib.Nat.{le-trans, zero-mul, suc-mul, mod-lt, mod-eq-of-lt, mul-add-mod-self-right, mul-le-mul-left}
 use mathlib.Core.Path.{_≡_, sym, _∙_}
 use mathlib.Core.Bool.{Bool}
-use mathlib.Core.Logic.{_⊎_, inl, inr}
 use mathlib.Core.List.{List, []}
 use lib.ListN.{length, getD}
 use Rattle.lists.specs.Lists.{All, count, upTo}
+use Rattle.lists.proofs.Arith.{pos-of-le-mul}
 use Rattle.lists.proofs.Alls.{all-map, all-getD}
 use Rattle.lists.proofs.Counts.{count-map}
 use Rattle.lists.proofs.UpTo.{all-upTo, length-map-upTo}
@@ -23,21 +23,13 @@ pub length-repeated : (blocks : List (List ℕ)) (c : ℕ) → length (repeated 
 unfolding repeated
 length-repeated blocks c = length-map-upTo (blockOf blocks) c
 
--- c ≤ d * m leaves no row where there is no block
-length-pos : (d c j m : ℕ) → c ≤ d * m → j < c → 0 < m
-length-pos d c j m h lt = go (eq-zero-or-pos m)
-  where
-    go : (m ≡ 0) ⊎ (0 < m) → 0 < m
-    go (inl e) = let g : c ≤ d * 0 = rw e at h in omega arith
-    go (inr p) = p
-
 -- each row is one of the blocks
 pub repeated-rows : (P : List ℕ → Type 0) (d c : ℕ) (blocks : List (List ℕ)) → c ≤ d * length blocks → All P blocks → All P (repeated blocks c)
 unfolding repeated
 repeated-rows P d c blocks h a = all-map P (blockOf blocks) (upTo c) (all-upTo (λ j. P (blockOf blocks j)) c each)
   where
     each : (j : ℕ) → j < c → P (blockOf blocks j)
-    each j lt = all-getD P blocks (j % length blocks) [] a (mod-lt j (length-pos d c j (length blocks) h lt))
+    each j lt = all-getD P blocks (j % length blocks) [] a (mod-lt j (pos-of-le-mul c d (length blocks) h (omega arith)))
 
 module _ (f : List ℕ → Bool) (blocks : List (List ℕ)) where
   -- the test of row j

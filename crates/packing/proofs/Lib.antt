@@ -7,7 +7,9 @@ pub mod Hits
 pub mod Floors
 pub mod Survivors
 pub mod Worked
-pub mod Places
 pub mod Blocks
 pub mod Written
 pub mod Load
+pub mod Found
+pub mod Subsets
+pub mod Failed

@@ -5,13 +5,12 @@ use mathlib.Core.Path.{_≡_, refl, sym, _∙_, subst, ap}
 use mathlib.Core.Logic.{_⊎_, inl, inr}
 use mathlib.Core.Bool.{Bool, true, false}
 use mathlib.Core.List.{List, [], _∷_, map, List·Memᴰ, List·Memᴰ·head, Memᴰ·append-left, Memᴰ·append-right, Memᴰ·map}
-use lib.ListN.{length}
 use lib.Dec.{T}
 use Rattle.lists.specs.Lists.{All, every}
 use Rattle.lists.proofs.Tests.{T-true, false-T, bool-ext}
 use Rattle.lists.proofs.Alls.{all-append, all-imp, all-map}
 use Rattle.lists.proofs.Counts.{count-congr}
-use Rattle.packing.specs.Rows.{member, distinct, holds, together, subsets}
+use Rattle.packing.specs.Rows.{member, distinct, holds, together, subsets, SetIn}
 use Rattle.packing.proofs.Members.{member-cases, member-here, member-later, member-of-holds, holds-of-member, distinct-head, distinct-tail, distinct-cons, without, member-of-without, member-without, not-member-without, distinct-without, length-without}
 
 -- the same members
@@ -31,12 +30,6 @@ pub together-same : (rows : List (List ℕ)) (nodes others : List ℕ) → Same 
 unfolding together
 together-same rows nodes others s =
     count-congr (λ row. holds row nodes) (λ row. holds row others) (λ row. holds-same row nodes others s) rows
-
--- nodes are a set of j nodes that the row holds
-pub record SetIn (j : ℕ) (row nodes : List ℕ) : Type 0 where
-  pub size : length nodes ≡ j
-  pub apart : T (distinct nodes)
-  pub held : T (holds row nodes)
 
 -- a set of the row is one of a longer row
 set-in-later : (j v : ℕ) (row nodes : List ℕ) → SetIn j row nodes → SetIn j (v ∷ row) nodes

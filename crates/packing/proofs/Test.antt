@@ -10,20 +10,15 @@ use mathlib.Core.List.{List, []}
 use mathlib.Core.Option.{none, some}
 use lib.ListN.{length, getD}
 use lib.Dec.{T, leb, ltb, leb→le, nleb→lt, ltb→lt, lt→ltb}
+use borrow.Author.Tests.{not-false}
 use Rattle.lists.specs.Lists.{All}
-use Rattle.lists.proofs.Tests.{T-true, true-T, false-T, T-not-false}
+use Rattle.lists.proofs.Tests.{T-true, true-T, false-T, T-not, T-not-false}
 use Rattle.lists.proofs.Alls.{all-imp, all-getD}
 use Rattle.lists.proofs.Finds.{firstWhere-none, none-firstWhere, some-firstWhere}
-use Rattle.packing.specs.Rows.{inOrder, Row, distinct, holds, together, Packing, subsets, crowded, firstCrowded, firstBad}
+use Rattle.packing.specs.Rows.{inOrder, Row, distinct, holds, together, Packing, subsets, SetIn, CrowdedSet, crowded, firstCrowded, firstBad}
 use Rattle.lists.proofs.Listed.{all-mem, any-mem, Passing, passing-any, passing-count, firstWhere-some}
 use Rattle.packing.proofs.Members.{row-distinct, rows-distinct}
-use Rattle.packing.proofs.Sets.{SetIn, subsets-in, listed-set, together-same}
-
--- "x+1 nodes together in too many rows": more than `bound`, and the row holds them
-pub record CrowdedSet (x bound : ℕ) (rows : List (List ℕ)) (row : List ℕ) : Type 0 where
-  pub nodes : List ℕ
-  pub inside : SetIn (suc x) row nodes
-  pub crowds : bound < together rows nodes
+use Rattle.packing.proofs.Sets.{subsets-in, listed-set, together-same}
 
 module _ (x bound : ℕ) (rows : List (List ℕ)) where
   -- a row that holds a crowded set is found crowded, whatever its order
@@ -124,15 +119,6 @@ module _ (x bound : ℕ) (rows : List (List ℕ)) where
           let passed = true-T _ (crowded-of-set (getD rows i []) (h .crowding)) in
           firstWhere-some (crowded x bound rows) rows [] i (record { within = h .within; passes = passed; first = quiet h })
 
--- the negation failed exactly where the test passed
-not-false : (b : Bool) → not b ≡ false → T b
-not-false true e = tt
-not-false false e = false-T e tt
-
-not-of-T : (b : Bool) → T b → not b ≡ false
-not-of-T true t = refl
-not-of-T false t = absurd t
-
 -- "strictly ascending, all below n": no row is found bad exactly where each is
 pub good-iff-in-order : (n : ℕ) (rows : List (List ℕ)) → (firstBad n rows ≡ none) ↔ All (λ row. T (inOrder n row)) rows
 unfolding firstBad
@@ -140,10 +126,10 @@ good-iff-in-order n rows = (good, in-order)
   where
     good : firstBad n rows ≡ none → All (λ row. T (inOrder n row)) rows
     good e =
-        all-imp (λ row. not (inOrder n row) ≡ false) (λ row. T (inOrder n row)) (λ row. not-false (inOrder n row)) rows
+        all-imp (λ row. not (inOrder n row) ≡ false) (λ row. T (inOrder n row)) (λ row e. T-true (not-false (inOrder n row) e)) rows
         (none-firstWhere (λ row. not (inOrder n row)) rows e)
 
     in-order : All (λ row. T (inOrder n row)) rows → firstBad n rows ≡ none
     in-order h =
         firstWhere-none (λ row. not (inOrder n row)) rows
-        (all-imp (λ row. T (inOrder n row)) (λ row. not (inOrder n row) ≡ false) (λ row. not-of-T (inOrder n row)) rows h)
+        (all-imp (λ row. T (inOrder n row)) (λ row. not (inOrder n row) ≡ false) (λ row. T-not (inOrder n row)) rows h)

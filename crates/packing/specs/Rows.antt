@@ -1,6 +1,6 @@
 -- Document 01, "Numbers and rows": rows, and sets of nodes that stand together in rows. Nodes are compared and counted
 -- by membership, and sets have any size x+1. Assumes nothing.
-use Prim.Native.Nat.{ℕ, zero, suc, _%_, _≤_}
+use Prim.Native.Nat.{ℕ, zero, suc, _+_, _*_, _%_, _≤_, _<_}
 use mathlib.Core.Path.{_≡_}
 use mathlib.Core.Bool.{Bool, true, false, not, _&&_, _||_}
 use mathlib.Core.List.{List, [], _∷_, _++_, map}
@@ -26,6 +26,13 @@ Row n r row = (length row ≡ r) × T (inOrder n row)
 unfoldable pub rowsAt : (r c : ℕ) → List ℕ → List (List ℕ)
 rowsAt r zero s = []
 rowsAt r (suc c) s = take r s ∷ rowsAt r c (drop r s)
+
+-- record j of a file whose first row starts at `first`: "b records are numbered from 0 in the order of their rows"
+abbrev pub recordAt : (bytes : List ℕ) (first r j : ℕ) → List ℕ
+recordAt bytes first r j = take r (drop (first + j * r) bytes)
+
+abbrev pub recordsIn : (bytes : List ℕ) (first r b : ℕ) → List (List ℕ)
+recordsIn bytes first r b = map (recordAt bytes first r) (upTo b)
 
 -- "Row j (from 0) of a layer is its block j mod m": the first c rows
 unfoldable pub repeated : (blocks : List (List ℕ)) (c : ℕ) → List (List ℕ)
@@ -59,7 +66,19 @@ subsets zero row = [] ∷ []
 subsets (suc j) [] = []
 subsets (suc j) (v ∷ row) = map (λ set. v ∷ set) (subsets j row) ++ subsets (suc j) row
 
--- the row holds x+1 nodes that stand together in more than `bound` of the rows
+-- the nodes are a set of j nodes that the row holds
+pub record SetIn (j : ℕ) (row nodes : List ℕ) : Type 0 where
+  pub size : length nodes ≡ j
+  pub apart : T (distinct nodes)
+  pub held : T (holds row nodes)
+
+-- "x+1 nodes together in too many rows": the row holds x+1 nodes that stand together in more than `bound` of the rows
+pub record CrowdedSet (x bound : ℕ) (rows : List (List ℕ)) (row : List ℕ) : Type 0 where
+  pub nodes : List ℕ
+  pub inside : SetIn (suc x) row nodes
+  pub crowds : bound < together rows nodes
+
+-- the same as a test: one of the row's sets of x+1 nodes
 unfoldable pub crowded : (x bound : ℕ) (rows : List (List ℕ)) → List ℕ → Bool
 crowded x bound rows row = any (λ nodes. ltb bound (together rows nodes)) (subsets (suc x) row)
 

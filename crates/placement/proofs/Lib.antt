@@ -2,6 +2,8 @@ pub mod Written
 pub mod Losses
 pub mod Survivors
 pub mod Accepted
+pub mod Rows
 pub mod Prefix
 pub mod Worked
-pub mod Stages
+pub mod Answered
+pub mod Meaning

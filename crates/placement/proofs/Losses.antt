@@ -3,7 +3,8 @@ use Prim.Native.Nat.{ℕ, suc, _≤_}
 use native.Mathlib.Omega.{arith}
 use mathlib.Core.List.{List, [], _∷_}
 use Rattle.lists.specs.Lists.{total}
-use Rattle.layers.specs.Layers.{LayerHead, sizes}
+use Rattle.layers.specs.Layers.{sizes}
+use Rattle.layers.specs.declared.LayerHead.{LayerHead}
 use Rattle.placement.specs.Figure.{loss, losses}
 
 pub loss-le-size : (s k x : ℕ) (head : LayerHead) → loss s k x head ≤ head .size

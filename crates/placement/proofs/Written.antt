@@ -1,21 +1,21 @@
 -- A good placement's bytes are its file, and at most 64 of them stand before the rows. Assumes nothing.
 use Prim.Native.Nat.{ℕ, _+_, _*_, _≤_, _<_}
 use native.Mathlib.Omega.{arith}
-use mathlib.Core.Path.{_≡_, refl, _∙_, ap}
-use mathlib.Core.List.{List, map, flatten}
+use mathlib.Core.Path.{_≡_, refl, sym, _∙_, ap}
+use mathlib.Core.List.{List, [], _++_, flatten, append-nil}
 use lib.ListN.{length, length-append}
 use lib.Dec.{T, ltb, ltb→lt}
 use Rattle.lists.specs.Lists.{All, every}
-use Rattle.lists.proofs.Alls.{all-append, all-imp, all-flatten, every-all}
+use Rattle.lists.proofs.Alls.{all-append, all-imp, all-flatten, every-all, length-flatten}
 use Rattle.lists.proofs.Tests.{and-right}
-use Rattle.number.specs.Numbers.{Bytes, Forms, largestNumber, numberBytes}
-use Rattle.number.proofs.Reading.{numberBytes-length-one, numberBytes-length-le-two}
+use Rattle.number.specs.Numbers.{Bytes, largestNumber, formsOf}
+use Rattle.number.proofs.Laws.{numberBytes-length-one, numberBytes-length-le-two}
 use Rattle.number.proofs.Forms.{forms-of, forms-bytes}
 use Rattle.packing.specs.Rows.{Row, ascending}
-use Rattle.layers.specs.Layers.{Layer, allRows}
-use Rattle.layers.proofs.Lengths.{length-flatten-rows, length-allRows, length-headNumbers, headNumbers-most}
+use Rattle.layers.specs.Layers.{allRows}
+use Rattle.layers.proofs.Lengths.{length-allRows, length-headNumbers, headNumbers-most}
 use Rattle.placement.specs.Figure.{figureOf}
-use Rattle.placement.specs.Placement.{Placement, PlacementLimits, GoodPlacement, placementNumbers, PlacementFile, placementBytes}
+use Rattle.placement.specs.Placement.{Placement, GoodPlacement, placementNumbers, PlacementFile, placementBytes}
 
 -- a row's nodes are bytes
 row-bytes : (n r : ℕ) → n ≤ 255 → (row : List ℕ) → Row n r row → Bytes row
@@ -38,6 +38,8 @@ module _ (p : Placement) (good : GoodPlacement p) where
   numbers-most : All (λ v. v ≤ largestNumber) (placementNumbers p)
   numbers-most =
       let l = good .limits in
+      let b = l .base in
+      let o = l .order in
       let f = figure-le in (
         omega arith,
         (
@@ -49,24 +51,32 @@ module _ (p : Placement) (good : GoodPlacement p) where
   -- what is written is the placement's file
   pub written-file : PlacementFile p (placementBytes p)
   unfolding placementBytes
-  written-file = (flatten (map numberBytes (placementNumbers p)), forms-of (placementNumbers p) numbers-most, refl)
+  written-file = (
+    formsOf (placementNumbers p),
+    [],
+    forms-of (placementNumbers p) numbers-most,
+    refl,
+    ap (λ l. formsOf (placementNumbers p) ++ l) (sym (append-nil (flatten (allRows (p .layers))))),
+  )
 
   pub written-bytes : Bytes (placementBytes p)
   unfolding placementBytes
   written-bytes =
-      all-append _ (flatten (map numberBytes (placementNumbers p))) (flatten (allRows (p .layers)))
+      all-append _ (formsOf (placementNumbers p)) (flatten (allRows (p .layers)))
       (forms-bytes (placementNumbers p) _ (forms-of (placementNumbers p) numbers-most))
-      (all-flatten _ (allRows (p .layers)) (all-imp _ Bytes (row-bytes (p .n) (p .r) (good .limits .n-most)) (allRows (p .layers)) (good .rows)))
+      (all-flatten _ (allRows (p .layers)) (all-imp _ Bytes (row-bytes (p .n) (p .r) (good .limits .base .n-most)) (allRows (p .layers)) (good .rows)))
 
   rows-length : length (flatten (allRows (p .layers))) ≡ p .b * p .r
   rows-length =
-      length-flatten-rows (p .r) (allRows (p .layers)) (all-imp _ _ (λ row h. h .0) (allRows (p .layers)) (good .rows))
+      length-flatten (p .r) (allRows (p .layers)) (all-imp _ _ (λ row h. h .0) (allRows (p .layers)) (good .rows))
       ∙ ap (λ n. n * p .r) (length-allRows (p .layers) ∙ good .limits .records-all)
 
-  head-length : length (flatten (map numberBytes (placementNumbers p))) ≤ 64
+  head-length : length (formsOf (placementNumbers p)) ≤ 64
   unfolding flatten
   head-length =
       let l = good .limits in
+      let b = l .base in
+      let o = l .order in
       let f = figure-le in
       simp length-append
       (omega (
@@ -85,4 +95,4 @@ module _ (p : Placement) (good : GoodPlacement p) where
   pub written-length : length (placementBytes p) ≤ 64 + p .b * p .r
   unfolding placementBytes
   written-length =
-      rw (length-append (flatten (map numberBytes (placementNumbers p)))) (omega (arith, head-length, rows-length))
+      rw (length-append (formsOf (placementNumbers p))) (omega (arith, head-length, rows-length))

@@ -1,26 +1,55 @@
--- The answer of checking a placement as a value of the code's types, and what each case says. Assumes nothing.
-use Prim.Native.Nat.{ℕ, _-_, _*_}
-use mathlib.Core.List.{List, [], _∷_, map}
-use lib.ListN.{length}
+-- The answers of reading and checking a placement as values of the code's types, and what each case says. Assumes nothing.
+use Prim.Native.Nat.{ℕ}
+use mathlib.Core.List.{List, [], _∷_}
 use Rattle.refusal.specs.Refusals.{Outcome, result, refusalOutcome}
+use Rattle.refusal.specs.declared.Verdict.the-variants.{Good, Refused as Bad}
 use Rattle.refusal.specs.Checked.{Checked, accepted, refused}
-use Rattle.layers.specs.Layers.{Layer, size, five}
-use Rattle.placement.specs.Placement.{Placement}
+use Rattle.layers.specs.Layers.{Located, headsOf, headNumbers}
+use Rattle.layers.specs.declared.LayerHead.{LayerHead}
+use Rattle.layers.specs.Answers.{fiveHeads}
+use Rattle.placement.specs.Placement.{Placement, TermsReading}
+use Rattle.placement.specs.declared.TermsRead.{TermsRead}
+use Rattle.placement.specs.declared.PlacementHead.{PlacementHead}
 use Rattle.placement.specs.declared.PlacementAnswer.{PlacementAnswer}
 use Rattle.placement.specs.declared.PlacementAnswer.the-variants.{Accepted, Refused}
 use Rattle.placement.specs.declared.PlacementCheck.{PlacementCheck}
 
--- a placement's answer: its rows are the file's last bytes
-abbrev pub placementChecked : List ℕ → Checked Placement → PlacementCheck
-placementChecked bytes (accepted p) =
-    record {
-      answer = Accepted (p .n) (p .r) (p .s) (p .k) (p .b) (p .figure) (length bytes - p .b * p .r);
-      lambda = five (map (λ layer. layer .bound) (p .layers));
-      c = five (map size (p .layers));
-    }
-placementChecked bytes (refused e) = record { answer = Refused e; lambda = five []; c = five [] }
+abbrev pub termsRead : Checked TermsReading → TermsRead
+termsRead (accepted order) = record { verdict = Good; terms = order .terms; next = order .next }
+termsRead (refused e) =
+    record { verdict = Bad e; terms = record { s = 0; k = 0; b = 0; figure = 0; place = 0 }; next = 0 }
 
--- an accepted placement's values are n, r, s, k, b, F and the place of its first row
-abbrev pub placementOutcome : PlacementAnswer → Outcome
-placementOutcome (Accepted n r s k b figure at) = result (n ∷ r ∷ s ∷ k ∷ b ∷ figure ∷ at ∷ [])
-placementOutcome (Refused e) = refusalOutcome e
+-- the numbers of an accepted placement
+abbrev pub placementHead : Located Placement → PlacementHead
+placementHead file =
+    let p = file .content in
+    record {
+      n = p .n;
+      r = p .r;
+      s = p .s;
+      k = p .k;
+      b = p .b;
+      figure = p .figure;
+      first = file .first;
+    }
+
+abbrev pub placementChecked : Checked (Located Placement) → PlacementCheck
+placementChecked (accepted file) =
+    record { answer = Accepted (placementHead file); layers = fiveHeads (headsOf (file .content .layers)) }
+placementChecked (refused e) = record { answer = Refused e; layers = fiveHeads [] }
+
+-- an accepted placement's values: n, r, s, k, b, F, the place of its first row, and lambda and c of each of five layers, 0
+-- and 0 from s on
+abbrev pub headValues : PlacementHead → List LayerHead → List ℕ
+headValues h layers = h .n ∷ h .r ∷ h .s ∷ h .k ∷ h .b ∷ h .figure ∷ h .first ∷ headNumbers layers
+
+abbrev pub placementValues : Located Placement → List ℕ
+placementValues file = headValues (placementHead file) (fiveHeads (headsOf (file .content .layers)))
+
+-- what the answer says, with the layers beside it
+abbrev pub placementSays : PlacementAnswer → List LayerHead → Outcome
+placementSays (Accepted head) layers = result (headValues head layers)
+placementSays (Refused e) layers = refusalOutcome e
+
+abbrev pub placementOutcome : PlacementCheck → Outcome
+placementOutcome check = placementSays (check .answer) (check .layers)

@@ -2,7 +2,7 @@
 use Prim.Native.Nat.{ℕ, suc, _+_, _*_, _-_, _/_, min}
 use mathlib.Core.List.{List, [], _∷_}
 use Rattle.binomial.specs.Choose.{choose}
-use Rattle.layers.specs.Layers.{LayerHead}
+use Rattle.layers.specs.declared.LayerHead.{LayerHead}
 
 -- "Loss of a layer: the smaller of c and floor(lambda × C(k,x+1) / C(s,x+1))", one floor a layer, and the smaller of the
 -- two "in every layer"

@@ -1,5 +1,5 @@
 pub mod Figure
 pub mod Placement
 pub mod Answers
-pub mod Stages
 pub mod SevenCabinets
+pub mod Meaning

@@ -1,17 +1,22 @@
 -- Document 01, "Placement". Assumes nothing.
-use Prim.Native.Nat.{ℕ, _-_, _≤_, _<_, min}
+use Prim.Native.Nat.{ℕ, _-_, _≤_, _<_}
 use mathlib.Core.Path.{_≡_}
 use mathlib.Core.Bool.{true}
-use mathlib.Core.List.{List, _∷_, _++_, map, flatten}
+use mathlib.Core.List.{List, [], _∷_, _++_, flatten}
 use lib.ListN.{length}
 use lib.Dec.{eqb}
 use Rattle.lists.specs.Lists.{All}
 use Rattle.refusal.specs.declared.Refusal.the-variants.{WrongFigure}
-use Rattle.refusal.specs.Checked.{Checked, accepted, _>>=_, require}
-use Rattle.number.specs.Numbers.{Reading, numberBytes, readWithin}
+use Rattle.refusal.specs.Checked.{Checked, accepted, _>>=_, require, mapAccepted}
+use Rattle.number.specs.Numbers.{formsOf, readWithin}
 use Rattle.packing.specs.Rows.{Row}
-use Rattle.layers.specs.Layers.{Layer, allRows, Packings, headsOf, headNumbers, sizes, File, LayerLimits, LayerHeads, readKind, readLayers, checkRows}
+use Rattle.layers.specs.Layers.{Layer, allRows, Packings, headsOf, headNumbers, sizes, File, Located, BaseLimits, readBase, readLayers, checkRows}
+use Rattle.layers.specs.declared.Base.{Base}
+use Rattle.layers.specs.declared.LayerHead.{LayerHead}
+use Rattle.layers.specs.declared.LayerLimits.{LayerLimits}
 use Rattle.placement.specs.Figure.{figureOf}
+use Rattle.placement.specs.declared.Order.{Order}
+use Rattle.placement.specs.declared.Terms.{Terms}
 
 -- n nodes, r replicas, the threshold s, k failures, b records, the figure F, and for each x from 0 to s-1 a layer of
 -- rows with its lambda
@@ -31,22 +36,22 @@ placementNumbers p =
 
 -- "then b rows, layer by layer; then the end"
 abbrev pub PlacementFile : Placement → List ℕ → Type 0
-PlacementFile p bytes = File (placementNumbers p) (p .layers) bytes
+PlacementFile p bytes = File (placementNumbers p) (p .layers) [] bytes
+
+-- "s 1..r; k s..n-1; b 1..4,096"
+pub record OrderLimits (n r : ℕ) (order : Order) : Type 0 where
+  pub s-least : 1 ≤ order .s
+  pub s-most : order .s ≤ r
+  pub k-least : order .s ≤ order .k
+  pub k-most : order .k < n
+  pub b-least : 1 ≤ order .b
+  pub b-most : order .b ≤ 4_096
 
 -- "Limits: n 2..255; r 2..5 and at most n; s 1..r; k s..n-1; b 1..4,096"; "lambda (0..16,777,216) and c (0 up to b less
 -- the c's before; the last must equal what is left)"
 pub record PlacementLimits (p : Placement) : Type 0 where
-  pub n-least : 2 ≤ p .n
-  pub n-most : p .n ≤ 255
-  pub r-least : 2 ≤ p .r
-  pub r-most : p .r ≤ 5
-  pub r-nodes : p .r ≤ p .n
-  pub s-least : 1 ≤ p .s
-  pub s-most : p .s ≤ p .r
-  pub k-least : p .s ≤ p .k
-  pub k-most : p .k < p .n
-  pub b-least : 1 ≤ p .b
-  pub b-most : p .b ≤ 4_096
+  pub base : BaseLimits (p .n) (p .r)
+  pub order : OrderLimits (p .n) (p .r) (record { s = p .s; k = p .k; b = p .b })
   pub layer-each : length (p .layers) ≡ p .s
   pub lambda-most : All (λ layer. layer .bound ≤ 16_777_216) (p .layers)
   pub records-all : sizes (headsOf (p .layers)) ≡ p .b
@@ -62,30 +67,57 @@ pub record GoodPlacement (p : Placement) : Type 0 where
 abbrev pub placementLayerLimits : LayerLimits
 placementLayerLimits = record { lo = 0; hi = 16_777_216; full = true }
 
--- "Head numbers are checked in file order", then the rows, "then 8": the placement, or the refusal
-unfoldable pub checkPlacement : List ℕ → Checked Placement
-checkPlacement bytes = do
-  kind ← readKind 2 bytes
-  n ← readWithin 2 255 bytes (kind .next)
-  r ← readWithin 2 (min 5 (n .value)) bytes (n .next)
-  s ← readWithin 1 (r .value) bytes (r .next)
-  k ← readWithin (s .value) (n .value - 1) bytes (s .next)
+-- s, k, b and F, and the next place
+pub record TermsReading : Type 0 where
+  pub terms : Terms
+  pub next : ℕ
+
+-- "s; k; b; the figure F (0..b)": the numbers from `at` on, where n and r are known
+unfoldable pub readTerms : Base → List ℕ → (at : ℕ) → Checked TermsReading
+readTerms base bytes at = do
+  s ← readWithin 1 (base .r) bytes at
+  k ← readWithin (s .value) (base .n - 1) bytes (s .next)
   b ← readWithin 1 4_096 bytes (k .next)
   figure ← readWithin 0 (b .value) bytes (b .next)
-  head ← readLayers placementLayerLimits (s .value) (b .value) bytes (figure .next)
-  layers ← checkRows (n .value) (r .value) (head .heads) bytes (head .next)
-  _ ← require (eqb (figure .value) (figureOf (s .value) (k .value) (b .value) (headsOf layers))) (WrongFigure (b .next))
   accepted
       (record {
-        n = n .value;
-        r = r .value;
-        s = s .value;
-        k = k .value;
-        b = b .value;
-        figure = figure .value;
-        layers = layers;
+        terms = record { s = s .value; k = k .value; b = b .value; figure = figure .value; place = b .next };
+        next = figure .next;
       })
+
+-- refusal 8: "F differs from the formula", at "F's start"
+unfoldable pub checkFigure : Terms → List LayerHead → Checked Unit
+checkFigure terms heads =
+    require (eqb (terms .figure) (figureOf (terms .s) (terms .k) (terms .b) heads)) (WrongFigure (terms .place))
+
+-- what the numbers and the layers say
+abbrev pub placementOf : Base → Terms → List Layer → Placement
+placementOf base terms layers =
+    record {
+      n = base .n;
+      r = base .r;
+      s = terms .s;
+      k = terms .k;
+      b = terms .b;
+      figure = terms .figure;
+      layers = layers;
+    }
+
+-- "Head numbers are checked in file order", then the rows, "then 8": the placement with the place of its first row, or the
+-- refusal
+unfoldable pub readPlacement : List ℕ → Checked (Located Placement)
+readPlacement bytes = do
+  head ← readBase 2 bytes
+  order ← readTerms (head .base) bytes (head .next)
+  numbers ← readLayers placementLayerLimits (order .terms .s) (order .terms .b) bytes (order .next)
+  layers ← checkRows (head .base) (numbers .heads) bytes (numbers .next)
+  _ ← checkFigure (order .terms) (headsOf layers)
+  accepted (record { content = placementOf (head .base) (order .terms) layers; first = numbers .next })
+
+-- the placement, or the refusal
+unfoldable pub checkPlacement : List ℕ → Checked Placement
+checkPlacement bytes = mapAccepted (λ file. file .content) (readPlacement bytes)
 
 -- a placement as a file: each number in its shortest form, then the rows
 unfoldable pub placementBytes : Placement → List ℕ
-placementBytes p = flatten (map numberBytes (placementNumbers p)) ++ flatten (allRows (p .layers))
+placementBytes p = formsOf (placementNumbers p) ++ flatten (allRows (p .layers))

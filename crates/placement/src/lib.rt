@@ -1,34 +1,50 @@
 // What checking a placement gives.
+use layers::LayerHead;
 use refusal::Refusal;
+use refusal::Verdict;
 
-// What checking a placement gives: its numbers and the place of its first row, or the refusal.
-pub enum PlacementAnswer {
-    Accepted {
-        n: usize,
-        r: usize,
-        s: usize,
-        k: usize,
-        b: usize,
-        figure: usize,
-        at: usize,
-    },
-    Refused(Refusal),
+// The threshold s, the number of failures k and the number of records b: what a figure is taken for, and what is planned.
+pub struct Order {
+    pub s: usize,
+    pub k: usize,
+    pub b: usize,
 }
 
-// The answer, with lambda and c of each layer below s; entries from s on are 0, and so are all beside a refusal.
-pub struct PlacementCheck {
-    pub answer: PlacementAnswer,
-    pub lambda: [usize; 5],
-    pub c: [usize; 5],
+// A placement's s, k, b and F, and the place where F starts.
+pub struct Terms {
+    pub s: usize,
+    pub k: usize,
+    pub b: usize,
+    pub figure: usize,
+    pub place: usize,
 }
 
-// A placement's numbers before its layers', and the place where the figure starts.
-pub struct Head {
+// What reading these numbers gives, with the next place; all numbers are 0 beside a refusal.
+pub struct TermsRead {
+    pub verdict: Verdict,
+    pub terms: Terms,
+    pub next: usize,
+}
+
+// An accepted placement's numbers, and the place of its first row.
+pub struct PlacementHead {
     pub n: usize,
     pub r: usize,
     pub s: usize,
     pub k: usize,
     pub b: usize,
     pub figure: usize,
-    pub place: usize,
+    pub first: usize,
+}
+
+// What checking a placement gives: its numbers, or the refusal.
+pub enum PlacementAnswer {
+    Accepted(PlacementHead),
+    Refused(Refusal),
+}
+
+// The answer, with lambda and c of each layer below s; entries from s on are 0, and so are all beside a refusal.
+pub struct PlacementCheck {
+    pub answer: PlacementAnswer,
+    pub layers: [LayerHead; 5],
 }

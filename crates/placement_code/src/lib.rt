@@ -1,51 +1,81 @@
-// Checking placements: the kind, n and r, then what follows them.
-mod from_b;
-mod from_s;
-mod refusing;
-mod rows;
+// Checking placements.
+mod terms;
 
-use number::NumberRead;
+use layers::LayerHead;
+use layers::LayerLimits;
+use placement::Order;
+use placement::PlacementAnswer;
 use placement::PlacementCheck;
+use placement::PlacementHead;
+use refusal::Refusal;
+use refusal::Verdict;
 ghost use mathlib.Core.Path.{_≡_};
-ghost use Prim.Native.Nat.{_≤_};
-ghost use Rattle.placement.specs.Placement.{checkPlacement};
+ghost use Rattle.refusal.specs.Checked.{refused};
+ghost use Rattle.placement.specs.Placement.{readPlacement};
 ghost use Rattle.placement.specs.Answers.{placementChecked};
-ghost use Rattle.placement.specs.Stages.{afterKind, afterN};
 
-// The check of a placement from r on, which starts at `at`.
-fn after_n(bytes: &[u8], n: usize, at: usize) -> PlacementCheck
-    requires { ⌜ (2 ≤ n) × (n ≤ 255) ⌝ }
-    ensures { λ check. ⌜ check ≡ placementChecked (now (bytes .entry)) (afterN (now (bytes .entry)) n at) ⌝ }
+// The answer that refuses.
+fn refuse(e: Refusal) -> PlacementCheck
+    ensures { λ check. ⌜ check ≡ placementChecked (refused e) ⌝ }
 {
-    let read = number_code::read_within(bytes, at, 2, minmax::smaller(5, n));
-    let NumberRead::Value(r, next) = read else {
-        return crate::refusing::refuse(layers_reader::refusal_of(read));
-    };
-    crate::from_s::after_r(bytes, n, r, next)
+    PlacementCheck {
+        answer: PlacementAnswer::Refused(e),
+        layers: [LayerHead { bound: 0, size: 0 }; 5],
+    }
 }
 
-// The check of a placement from n on, which starts at `at`.
-fn after_kind(bytes: &[u8], at: usize) -> PlacementCheck
-    ensures { λ check. ⌜ check ≡ placementChecked (now (bytes .entry)) (afterKind (now (bytes .entry)) at) ⌝ }
-{
-    let read = number_code::read_within(bytes, at, 2, 255);
-    let NumberRead::Value(n, next) = read else {
-        return crate::refusing::refuse(layers_reader::refusal_of(read));
-    };
-    after_n(bytes, n, next)
-}
-
-// Checks a placement: its head's numbers in the file's order, then its rows, then its figure.
+// Checks a placement: n and r, then s, k, b and F, the layers' numbers, the rows, and the figure.
 //
 // Accepted exactly where the bytes are the file of a placement with document 01's limits, rows in order, the packing of every
 // layer and the formula's figure: `placement-accepted-iff` in `placement`. The figure of an accepted placement holds
 // whichever k of its n nodes fail: `survivors` in `placement`.
 pub fn check_placement(bytes: &[u8]) -> PlacementCheck
-    ensures { λ check. ⌜ check ≡ placementChecked (now (bytes .entry)) (checkPlacement (now (bytes .entry))) ⌝ }
+    ensures { λ check. ⌜ check ≡ placementChecked (readPlacement (now (bytes .entry))) ⌝ }
 {
-    let read = layers_reader::read_kind(bytes, 2);
-    let NumberRead::Value(_, next) = read else {
-        return crate::refusing::refuse(layers_reader::refusal_of(read));
+    let head = layers_reader::read_base(bytes, 2);
+    let head_verdict = head.verdict;
+    if let Verdict::Refused(e) = head_verdict {
+        return refuse(e);
+    }
+    let base = head.base;
+    let read = terms::read_terms(bytes, base, head.next);
+    let read_verdict = read.verdict;
+    if let Verdict::Refused(e) = read_verdict {
+        return refuse(e);
+    }
+    let t = read.terms;
+    let s = t.s;
+    let b = t.b;
+    let limits = LayerLimits {
+        lo: 0,
+        hi: 16_777_216,
+        full: true,
     };
-    after_kind(bytes, next)
+    let numbers = layers_reader::read_layers(bytes, read.next, s, b, limits);
+    let numbers_verdict = numbers.verdict;
+    if let Verdict::Refused(e) = numbers_verdict {
+        return refuse(e);
+    }
+    let layers = numbers.heads;
+    let first = numbers.next;
+    let rows_verdict = layers_code::check_rows(bytes, first, base, s, layers);
+    if let Verdict::Refused(e) = rows_verdict {
+        return refuse(e);
+    }
+    let order = Order { s, k: t.k, b };
+    if t.figure != placement_figure::figure_of(order, layers) {
+        return refuse(Refusal::WrongFigure(t.place));
+    }
+    PlacementCheck {
+        answer: PlacementAnswer::Accepted(PlacementHead {
+            n: base.n,
+            r: base.r,
+            s,
+            k: t.k,
+            b,
+            figure: t.figure,
+            first,
+        }),
+        layers,
+    }
 }

@@ -2,150 +2,238 @@
 -- nothing.
 use Prim.Native.Nat.{ℕ, zero, suc, _+_, _*_, _-_, _≤_, _<_}
 use native.Mathlib.Omega.{arith}
-use mathlib.Core.Path.{_≡_, refl, sym, _∙_, ap, subst}
-use mathlib.Core.List.{List, [], _∷_, _++_}
+use native.Mathlib.Nat.{le-refl, le-trans, mul-le-mul-right}
+use mathlib.Core.Path.{_≡_, sym, _∙_, ap, subst}
+use mathlib.Core.List.{List, [], _∷_, _++_, map-map, flatten}
 use lib.ListN.{length, getD, take, drop, length-append, length-drop}
-use Rattle.lists.specs.Lists.{All, upTo}
+use lib.Seq.{getD-take}
+use Rattle.lists.specs.Lists.{All, upTo, overStart}
+use Rattle.lists.proofs.Alls.{all-map}
+use Rattle.lists.proofs.UpTo.{all-upTo, map-upTo-congr, getD-map-upTo}
+use Rattle.lists.proofs.Writing.{givenBack, take-drop-rest, write-part}
 use Rattle.refusal.specs.Checked.{accepted}
-use Rattle.number.specs.Numbers.{Forms, largestNumber}
-use Rattle.layers.specs.Layers.{headsOf, sizes, headNumbers}
+use Rattle.number.specs.Numbers.{Forms, formsOf, largestNumber}
+use Rattle.packing.specs.Rows.{repeated}
+use Rattle.layers.specs.Layers.{Layer, allRows, headsOf, sizes}
+use Rattle.layers.specs.Answers.{noHead, fiveHeads}
+use Rattle.layers.specs.declared.Base.{Base}
+use Rattle.layers.specs.declared.LayerHead.{LayerHead}
+use Rattle.layers.proofs.Arrays.{take-five, sizes-take-le}
 use Rattle.pack.specs.Pack.{Pack}
 use Rattle.placement.specs.Figure.{figureOf}
 use Rattle.placement.specs.Placement.{Placement, GoodPlacement, placementNumbers, placementBytes}
+use Rattle.placement.specs.declared.Order.{Order}
 use Rattle.placement.proofs.Written.{written-file, written-length}
-use Rattle.lists.proofs.Writing.{take-drop-rest, write-part}
-use Rattle.packing.proofs.Written.{givenBack}
-use Rattle.layers.specs.Answers.{arrayHeads}
-use Rattle.split.specs.Splits.{countsSplit}
-use Rattle.planner.specs.Planning.{splitPlacement, outputNeeded, outputAfter}
+use Rattle.split.specs.Splits.{Share, layerAt, shareHead, splitHeads, countsSplit}
+use Rattle.split.proofs.Bounds.{copiesFor-mul-bound-le}
+use Rattle.split.proofs.Heads.{length-splitHeads, split-count-le}
+use Rattle.planner.specs.Planning.{blocksAt, placed, splitPlacement, outputNeeded, outputAfter}
 use Rattle.planner.specs.Answers.{planAnswer}
 use Rattle.planner.specs.declared.PlanAnswer.the-variants.{Planned}
-use Rattle.planner.specs.Writing.{formsOf, beginning, headList, totalBelow, lambdaOf, rowsBelow, arrayPack, countsPlacement, Writable}
-use Rattle.planner.proofs.Layering.{length-rowsBelow}
+use Rattle.planner.specs.Writing.{heldLayers, heldPack, countsPlacement, writtenNumbers, rowsBelow, Writable, SharesFit, RowsFit}
+use Rattle.planner.proofs.Layering.{layerAt-held, length-rowsBelow}
 use Rattle.planner.proofs.Placed.{heads-placed, placed-good}
-use Rattle.planner.proofs.Arrays.{layerAt-is, s-le-five, counts-sum, some-blocks, blocks-fit, lambda-most, allRows-are, splitHeads-are, sizes-within, bounds-most}
 
 -- numbers that have forms are within limits
 forms-most : (numbers f : List ℕ) → Forms numbers f → All (λ v. v ≤ largestNumber) numbers
 forms-most [] f h = tt
 forms-most (v ∷ numbers) f (g, rest, e, form, h) = (form .0, forms-most numbers rest h)
 
--- the first numbers of the head's array
-pub head-taken : (n r s k b figure : ℕ) (lambda c : List ℕ) → s ≤ 5
-    → take (7 + 2 * s - 0) (drop 0 (2 ∷ n ∷ r ∷ s ∷ k ∷ b ∷ figure ∷ headNumbers (arrayHeads 5 lambda c)))
-    ≡ headList n r s k b figure lambda c
-unfolding headNumbers upTo
-head-taken n r zero k b figure lambda c h = refl
-head-taken n r (suc zero) k b figure lambda c h = refl
-head-taken n r (suc (suc zero)) k b figure lambda c h = refl
-head-taken n r (suc (suc (suc zero))) k b figure lambda c h = refl
-head-taken n r (suc (suc (suc (suc zero)))) k b figure lambda c h = refl
-head-taken n r (suc (suc (suc (suc (suc zero))))) k b figure lambda c h = refl
-head-taken n r (suc (suc (suc (suc (suc (suc s)))))) k b figure lambda c h = absurd (omega arith)
+-- a layer that holds records has blocks
+held-some : (c d m : ℕ) → c ≤ d * m → 0 < c → 0 < m
+held-some c d zero h some = omega arith
+held-some c d (suc m) h some = omega arith
 
-module _ {n r : ℕ} {mu m blocks : List ℕ} {s k b : ℕ} {counts : List ℕ} (w : Writable n r mu m blocks s k b counts) where
+module _ {base : Base} {layers : List LayerHead} {blocks : List ℕ} {order : Order} {counts : List ℕ}
+    (w : Writable base layers blocks order counts) where
+  -- the split, by the code's numbers and by the pack's
+  abbrev split : ℕ → Share
+  split = countsSplit layers counts
+
   abbrev pack : Pack
-  pack = arrayPack n r mu m blocks
+  pack = heldPack base layers blocks
+
+  abbrev packSplit : ℕ → Share
+  packSplit = countsSplit (headsOf (pack .layers)) counts
 
   -- what is written
   abbrev placement : Placement
-  placement = countsPlacement pack s k b counts
+  placement = countsPlacement pack order counts
+
+  agree : (x : ℕ) → x < order .s → layerAt (headsOf (pack .layers)) x ≡ layerAt layers x
+  agree x h = layerAt-held (base .r) layers blocks x (omega (arith, w .within .s-most))
+
+  heads-agree : splitHeads (headsOf (pack .layers)) (order .s) packSplit ≡ splitHeads layers (order .s) split
+  heads-agree = map-upTo-congr _ _ (order .s) (λ x h. rw (agree x h))
+
+  s-le-five : order .s ≤ 5
+  s-le-five = omega (arith, w .within .s-most, w .held .good .limits .base .r-most)
+
+  count-most : (x : ℕ) → x < order .s → getD counts x 0 ≤ 4_096
+  count-most x h =
+      omega (arith, split-count-le layers (order .s) (order .b) split (w .is-split) x h, w .within .b-most)
+
+  lambda-most : (x : ℕ) → x < order .s → split x .copies * layerAt layers x .bound ≤ 16_777_216
+  lambda-most x h =
+      copiesFor-mul-bound-le (getD counts x 0) (layerAt layers x .size) (layerAt layers x .bound) (count-most x h)
+      (w .held .most x .0)
+
+  -- what the two numbers of each layer ask
+  pub shares-fit : SharesFit layers (order .s) counts
+  shares-fit = record { s-most = s-le-five; most = w .held .most; count-most = count-most }
 
   -- the placement of any split with the least copies is good
   pub committed-good : GoodPlacement placement
   committed-good =
-      placed-good pack s k b (countsSplit (headsOf (pack .layers)) counts) (w .held .good) (w .order) (w .is-split)
-      (λ x h. rw (layerAt-is n r mu m blocks x (omega (arith, w .order .s-most))) (lambda-most w x h))
+      placed-good pack (order .s) (order .k) (order .b) packSplit (w .held .good) (w .within)
+      (record { held = λ x h. rw (agree x h) (w .is-split .held x h); sum = ap sizes heads-agree ∙ w .is-split .sum })
+      (λ x h. rw (agree x h) (lambda-most x h))
 
-  rows-length : length (rowsBelow r blocks m counts s) ≡ b * r
+-- the two numbers of each layer, as the code has them
+module _ {base : Base} {layers : List LayerHead} {blocks : List ℕ} {order : Order} {counts : List ℕ} {heads : List LayerHead}
+    (w : Writable base layers blocks order counts)
+    (are : heads ≡ fiveHeads (splitHeads layers (order .s) (countsSplit layers counts))) where
+  heads-taken : take (order .s) heads ≡ splitHeads layers (order .s) (split w)
+  heads-taken =
+      rw are (take-five noHead (splitHeads layers (order .s) (split w)) (order .s) (length-splitHeads layers (order .s) (split w)) (s-le-five w))
+
+  -- what the figure asks
+  pub figure-limits : ((order .s ≤ 5) × (order .k ≤ 255) × (sizes (take (order .s) heads) ≤ order .b))
+      × All (λ head. head .bound ≤ 16_777_216) (take (order .s) heads)
+  figure-limits =
+      rw heads-taken (
+        (
+          s-le-five w,
+          omega (arith, w .within .k-most, w .held .good .limits .base .n-most),
+          omega (arith, w .is-split .sum),
+        ),
+        all-map _ (λ x. shareHead (layerAt layers x) (split w x)) (upTo (order .s)) (all-upTo _ (order .s) (lambda-most w)),
+      )
+
+-- The placement's two numbers of each layer and its figure, as the code has them, and room for the placement in the output.
+pub record HeadMade (base : Base) (layers : List LayerHead) (blocks : List ℕ) (order : Order) (counts : List ℕ)
+    (heads : List LayerHead) (figure : ℕ) (out₀ : List ℕ) : Type 0 where
+  pub writable : Writable base layers blocks order counts
+  pub room : outputNeeded (order .b) (base .r) ≤ length out₀
+  pub heads-are : heads ≡ fiveHeads (splitHeads layers (order .s) (countsSplit layers counts))
+  pub figure-is : figure ≡ figureOf (order .s) (order .k) (order .b) (take (order .s) heads)
+
+module _ {base : Base} {layers : List LayerHead} {blocks : List ℕ} {order : Order} {counts : List ℕ} {heads : List LayerHead} {figure : ℕ}
+    {out₀ : List ℕ} (made : HeadMade base layers blocks order counts heads figure out₀) where
+  abbrev w : Writable base layers blocks order counts
+  w = made .writable
+
+  -- the head's numbers, and the rows
+  abbrev numbers : List ℕ
+  numbers = writtenNumbers base order figure (take (order .s) heads)
+
+  abbrev rows : List ℕ
+  rows = rowsBelow (heldLayers (base .r) layers blocks) heads (order .s)
+
+  taken : take (order .s) heads ≡ splitHeads layers (order .s) (split w)
+  taken = heads-taken w (made .heads-are)
+
+  made-figure : placement w .figure ≡ figure
+  unfolding splitPlacement
+  made-figure =
+      ap (figureOf (order .s) (order .k) (order .b)) (heads-agree w ∙ sym taken) ∙ sym (made .figure-is)
+
+  numbers-are : placementNumbers (placement w) ≡ numbers
+  unfolding splitPlacement
+  numbers-are =
+      rw (← made-figure, heads-placed (pack w) (order .s) (order .k) (order .b) (packSplit w), heads-agree w, taken)
+
+  -- layer x's count
+  size-at : (x : ℕ) → x < order .s → layerAt heads x .size ≡ getD counts x 0
+  size-at x h =
+      ap (λ (head : LayerHead). head .size)
+      (sym (getD-take (order .s) heads x noHead h)
+      ∙ ap (λ (l : List LayerHead). layerAt l x) taken
+      ∙ getD-map-upTo (λ y. shareHead (layerAt layers y) (split w y)) (order .s) x noHead h)
+
+  sum-is : sizes (take (order .s) heads) ≡ order .b
+  sum-is = ap sizes taken ∙ w .is-split .sum
+
+  -- what writing the rows asks of an output
+  fit-in : (out : List ℕ) → order .b * base .r ≤ length out → RowsFit (base .r) (order .s) layers heads blocks out
+  fit-in out fits =
+      record {
+        s-most = s-le-five w;
+        s-below = w .within .s-most;
+        rows-fit = rw sum-is fits;
+        blocks-fit =
+            le-trans (mul-le-mul-right (base .r) (sizes-take-le layers (order .s) (base .r) (w .within .s-most))) (w .held .whole);
+        some-blocks = λ x h some.
+            held-some (getD counts x 0) (split w x .copies) (layerAt layers x .size) (w .is-split .held x h) (rw (size-at x h) at some);
+      }
+
+  rows-length : length rows ≡ order .b * base .r
   rows-length =
-      length-rowsBelow r s blocks m counts (blocks-fit w) (some-blocks w) s (omega arith) ∙ ap (λ (c : ℕ). c * r) (counts-sum w)
+      length-rowsBelow (fit-in out₀ (omega (arith, made .room))) (order .s) (le-refl _) ∙ ap (λ (c : ℕ). c * base .r) sum-is
 
-  bytes-are : placementBytes placement ≡ formsOf (placementNumbers placement) ++ rowsBelow r blocks m counts s
+  rows-are : flatten (allRows (placement w .layers)) ≡ rows
+  unfolding splitPlacement
+  rows-are =
+      let at : ℕ → Layer = λ x. placed (blocksAt (pack w .layers) x) (packSplit w x) in
+      ap (λ (l : List (List (List ℕ))). flatten (flatten l))
+      (map-map (λ (layer : Layer). layer .rows) at (upTo (order .s))
+      ∙ map-upTo-congr _ _ (order .s) (λ x h. ap (repeated (blocksAt (pack w .layers) x .rows)) (sym (size-at x h))))
+
+  bytes-are : placementBytes (placement w) ≡ formsOf numbers ++ rows
   unfolding placementBytes
-  bytes-are = rw (allRows-are w)
+  bytes-are = λ i. formsOf (numbers-are i) ++ rows-are i
 
-  bytes-length : length (placementBytes placement) ≡ length (formsOf (placementNumbers placement)) + b * r
-  bytes-length =
-      ap length bytes-are
-      ∙ length-append (formsOf (placementNumbers placement)) (rowsBelow r blocks m counts s)
-      ∙ rw rows-length
+  bytes-length : length (placementBytes (placement w)) ≡ length (formsOf numbers) + order .b * base .r
+  bytes-length = ap length bytes-are ∙ length-append (formsOf numbers) rows ∙ rw rows-length
 
   -- the head and the rows fit
-  bytes-fit : length (formsOf (placementNumbers placement)) + b * r ≤ outputNeeded b r
+  bytes-fit : length (formsOf numbers) + order .b * base .r ≤ length out₀
   unfolding splitPlacement
-  bytes-fit = omega (arith, bytes-length, written-length placement committed-good)
+  bytes-fit = omega (arith, bytes-length, written-length (placement w) (committed-good w), made .room)
 
-  -- lambda and the figure, as the code has them
-  module _ (lambda : List ℕ) (are : (x : ℕ) → x < s → getD lambda x 0 ≡ lambdaOf mu m counts x) where
-    pub figure-limits : ((s ≤ 5) × (k ≤ 255) × (sizes (arrayHeads s lambda counts) ≤ b)) × All (λ head. head .bound ≤ 16_777_216)
-        (arrayHeads s lambda counts)
-    figure-limits = (
-      (s-le-five w, omega (arith, w .order .k-most, w .held .good .limits .n-most), sizes-within w lambda are),
-      bounds-most w lambda are,
-    )
+  -- what writing the head asks
+  pub head-limits : (order .s ≤ 5) × (All (λ v. v ≤ largestNumber) numbers × (length (formsOf numbers) ≤ length out₀))
+  head-limits =
+      let file = written-file (placement w) (committed-good w) in
+      let most = forms-most (placementNumbers (placement w)) (file .0) (file .2) in
+      (s-le-five w, (subst (λ (l : List ℕ). All (λ v. v ≤ largestNumber) l) numbers-are most, omega (arith, bytes-fit)))
 
-    module _ (figure : ℕ) (f : figure ≡ figureOf s k b (arrayHeads s lambda counts)) where
-      abbrev head : List ℕ
-      head = headList n r s k b figure lambda counts
+-- The head is written to the start of the output, and ends at `at`.
+pub record HeadWritten (base : Base) (layers : List LayerHead) (blocks : List ℕ) (order : Order) (counts : List ℕ)
+    (heads : List LayerHead) (figure : ℕ) (out₀ out : List ℕ) (at : ℕ) : Type 0 where
+  pub head-made : HeadMade base layers blocks order counts heads figure out₀
+  pub head-bytes : (at ≡ length (formsOf (writtenNumbers base order figure (take (order .s) heads))))
+      × (out ≡ overStart (formsOf (writtenNumbers base order figure (take (order .s) heads))) out₀)
 
-      figure-is : figure ≡ placement .figure
-      unfolding splitPlacement
-      figure-is = f ∙ sym (ap (figureOf s k b) (splitHeads-are w lambda are))
+module _ {base : Base} {layers : List LayerHead} {blocks : List ℕ} {order : Order} {counts : List ℕ} {heads : List LayerHead} {figure : ℕ}
+    {out₀ out : List ℕ} {at : ℕ} (h : HeadWritten base layers blocks order counts heads figure out₀ out at) where
+  abbrev made : HeadMade base layers blocks order counts heads figure out₀
+  made = h .head-made
 
-      head-is : placementNumbers placement ≡ head
-      unfolding splitPlacement
-      head-is =
-          rw (figure-is, heads-placed pack s k b (countsSplit (headsOf (pack .layers)) counts), splitHeads-are w lambda are)
+  abbrev head : List ℕ
+  head = formsOf (numbers made)
 
-      head-fits : length (formsOf head) + b * r ≤ outputNeeded b r
-      head-fits = subst (λ (l : List ℕ). length (formsOf l) + b * r ≤ outputNeeded b r) head-is bytes-fit
+  out-length : length out ≡ length out₀
+  out-length = ap length (h .head-bytes .1) ∙ simp (length-append, length-drop) (omega (arith, bytes-fit made))
 
-      module _ (out₀ : List ℕ) (room : outputNeeded b r ≤ length out₀) where
-        pub head-limits : (s ≤ 5) × (All (λ v. v ≤ largestNumber) head × (length (formsOf head) ≤ length out₀))
-        head-limits =
-            let file = written-file placement committed-good in
-            let most = forms-most (placementNumbers placement) (file .0) (file .1) in
-            (s-le-five w, (subst (λ (l : List ℕ). All (λ v. v ≤ largestNumber) l) head-is most, omega (arith, head-fits)))
+  pub rows-fit : at + order .b * base .r ≤ length out
+  rows-fit = omega (arith, bytes-fit made, out-length, h .head-bytes .0)
 
-        -- the head is written to the start of `out`, and ends at `at`
-        module _ (out : List ℕ) (at : ℕ) (written : (at ≡ length (formsOf head)) × (out ≡ beginning (formsOf head) out₀)) where
-          out-length : length out ≡ length out₀
-          out-length = ap length (written .1) ∙ simp (length-append, length-drop) (omega (arith, head-fits))
+  pub rows-limits : RowsFit (base .r) (order .s) layers heads blocks (take (length out - at) (drop at out))
+  rows-limits = fit-in made _ (rw (take-drop-rest out at, length-drop at out) (omega (arith, rows-fit)))
 
-          pub rows-fit : at + b * r ≤ length out
-          rows-fit = omega (arith, head-fits, out-length, written .0)
+  -- and the rows after it
+  module _ (last : List ℕ) (e : last ≡ overStart (rows made) (take (length out - at) (drop at out))) where
+    long : at + order .b * base .r ≡ length (placementBytes (placement (w made)))
+    long = omega (arith, h .head-bytes .0, bytes-length made)
 
-          pub rows-limits : (s ≤ 5)
-              × ((totalBelow counts s * r ≤ length (take (length out - at) (drop at out)))
-              × ((totalBelow m s * r ≤ length blocks) × ((x : ℕ) → x < s → 0 < getD counts x 0 → 0 < getD m x 0)))
-          rows-limits =
-              let fits : totalBelow counts s * r ≤ length (take (length out - at) (drop at out)) =
-              rw (counts-sum w, take-drop-rest out at, length-drop at out) (omega (arith, rows-fit))
-              in
-              (s-le-five w, (fits, (blocks-fit w, some-blocks w)))
+    pub answer-is : Planned (at + order .b * base .r) figure ≡ planAnswer (accepted (placement (w made))) .answer
+    answer-is = λ i. Planned (long i) (sym (made-figure made) i)
 
-          -- and the rows after it
-          module _ (last : List ℕ) (e : last ≡ beginning (rowsBelow r blocks m counts s) (take (length out - at) (drop at out))) where
-            long : at + b * r ≡ length (placementBytes placement)
-            long =
-                let same : length (formsOf head) ≡ length (formsOf (placementNumbers placement)) =
-                ap (λ (l : List ℕ). length (formsOf l)) (sym head-is)
-                in
-                omega (arith, written .0, same, bytes-length)
-
-            pub answer-is : Planned (at + b * r) figure ≡ planAnswer (accepted placement) .answer
-            answer-is = λ i. Planned (long i) (figure-is i)
-
-            pub output-is : givenBack out at last ≡ outputAfter (accepted placement) out₀
-            output-is =
-                let ended : length (formsOf head) ≡ at = sym (written .0) in
-                let is : out ≡ formsOf head ++ drop at out₀ = rw (← ended) (written .1) in
-                let whole : formsOf head ++ rowsBelow r blocks m counts s ≡ placementBytes placement =
-                ap (λ (l : List ℕ). formsOf l ++ rowsBelow r blocks m counts s) (sym head-is) ∙ sym bytes-are
-                in
-                let end : at + length (rowsBelow r blocks m counts s) ≡ length (placementBytes placement) =
-                ap (λ (n : ℕ). at + n) rows-length ∙ long
-                in
-                write-part (formsOf head) (rowsBelow r blocks m counts s) out₀ out last at ended is e
-                ∙ (λ i. whole i ++ drop (end i) out₀)
+    pub output-is : givenBack out at last ≡ outputAfter (accepted (placement (w made))) out₀
+    output-is =
+        let ended : length head ≡ at = sym (h .head-bytes .0) in
+        let is : out ≡ head ++ drop at out₀ = rw (← ended) (h .head-bytes .1) in
+        let end : at + length (rows made) ≡ length (placementBytes (placement (w made))) = ap (λ (n : ℕ). at + n) (rows-length made) ∙ long in
+        write-part head (rows made) out₀ out last at ended is e
+        ∙ (λ i. sym (bytes-are made) i ++ drop (end i) out₀)

@@ -2,48 +2,62 @@
 use Prim.Native.Nat.{ℕ, zero, suc, _+_, _*_, _-_, _≤_, _<_}
 use native.Mathlib.Omega.{arith}
 use native.Mathlib.Numerals.{add-one}
-use native.Mathlib.Nat.{le-refl, mul-le-mul, eq-or-lt-of-le, le-of-suc-le-suc}
+use native.Mathlib.Nat.{le-refl, mul-le-mul, zero-mul}
 use mathlib.Core.Path.{_≡_, refl, sym, _∙_, ap}
-use mathlib.Core.Logic.{_⊎_, inl, inr}
 use mathlib.Core.List.{List, [], _∷_, _++_, flatten, map, append-nil}
-use lib.ListN.{length, getD, take, drop, length-append, length-drop}
-use Rattle.lists.specs.Lists.{total, upTo}
-use Rattle.lists.proofs.Counts.{flatten-append, total-append}
+use lib.ListN.{length, take, drop, length-append, length-drop}
+use lib.Seq.{drop-drop, take-take, getD-take}
+use Rattle.lists.proofs.Alls.{length-flatten}
+use Rattle.lists.specs.Lists.{total, upTo, overStart}
+use Rattle.lists.proofs.Counts.{flatten-append}
 use Rattle.lists.proofs.UpTo.{map-upTo-suc}
+use Rattle.lists.proofs.Writing.{givenBack, take-drop-rest, write-part}
 use Rattle.packing.specs.Rows.{rowsAt, repeated}
 use Rattle.packing.proofs.Copies.{repeated-rows, length-repeated}
-use Rattle.layers.proofs.Lengths.{length-flatten-rows}
 use Rattle.packing.proofs.RowsAt.{length-rowsAt, rowsAt-lengths}
-use Rattle.lists.proofs.Writing.{take-drop-rest, write-part}
-use Rattle.packing.proofs.Written.{givenBack}
-use Rattle.planner.specs.Writing.{beginning, totalBelow, layerRows, rowsBelow}
+use Rattle.layers.specs.Layers.{Layer, sizes, headsOf, layersAt}
+use Rattle.layers.specs.declared.LayerHead.{LayerHead}
+use Rattle.layers.proofs.Arrays.{sizes-take-suc, sizes-take-le}
+use Rattle.layers.proofs.Layouts.{headsOf-layersAt}
+use Rattle.split.specs.Splits.{layerAt}
+use Rattle.planner.specs.Planning.{blocksAt}
+use Rattle.planner.specs.Writing.{heldLayers, rowsBelow, RowsFit}
 
-pub totalBelow-suc : (array : List ℕ) (x : ℕ) → totalBelow array (suc x) ≡ totalBelow array x + getD array x 0
-unfolding total
-totalBelow-suc array x =
-    ap total (map-upTo-suc (λ y. getD array y 0) x)
-    ∙ total-append (map (λ y. getD array y 0) (upTo x)) (getD array x 0 ∷ [])
-    ∙ omega arith
+-- the blocks of layer x begin after those of the layers below it
+blocksAt-layersAt : (r : ℕ) (heads : List LayerHead) (s : List ℕ) (x : ℕ)
+    → blocksAt (layersAt r heads s) x .rows ≡ rowsAt r (layerAt heads x .size) (drop (sizes (take x heads) * r) s)
+unfolding layersAt total rowsAt
+blocksAt-layersAt r [] s x = refl
+blocksAt-layersAt r (head ∷ heads) s zero = rw (zero-mul r)
+blocksAt-layersAt r (head ∷ heads) s (suc x) =
+    let e : head .size * r + sizes (take x heads) * r ≡ (head .size + sizes (take x heads)) * r = omega arith in
+    blocksAt-layersAt r heads (drop (head .size * r) s) x
+    ∙ rw (drop-drop (sizes (take x heads) * r) (head .size * r) s, e)
 
-pub totalBelow-mono : (array : List ℕ) (x y : ℕ) → x ≤ y → totalBelow array x ≤ totalBelow array y
-totalBelow-mono array x zero h = let e : x ≡ 0 = omega arith in rw e (le-refl _)
-totalBelow-mono array x (suc y) h = go (eq-or-lt-of-le h) (totalBelow-mono array x y)
-  where
-    go : (x ≡ suc y) ⊎ (x < suc y) → (x ≤ y → totalBelow array x ≤ totalBelow array y) → totalBelow array x ≤ totalBelow array (suc y)
-    go (inl e) ih = rw e (le-refl _)
-    go (inr l) ih = let i = ih (le-of-suc-le-suc l) in omega (arith, totalBelow-suc array y)
+-- layer x below r of the code's five: its two numbers, and its blocks
+module _ (r : ℕ) (layers : List LayerHead) (blocks : List ℕ) (x : ℕ) (h : x < r) where
+  layerAt-take : layerAt (take r layers) x ≡ layerAt layers x
+  layerAt-take = getD-take r layers x _ h
 
--- the entries below x and the one at x, r bytes each, are within all
-pub below-fits : (array : List ℕ) (r x s : ℕ) → x < s → totalBelow array x * r + getD array x 0 * r ≤ totalBelow array s * r
-below-fits array r x s h =
-    let m = mul-le-mul (rw (totalBelow-suc array x) at (totalBelow-mono array (suc x) s h)) (le-refl r) in
-    omega arith
+  pub layerAt-held : layerAt (headsOf (heldLayers r layers blocks)) x ≡ layerAt layers x
+  layerAt-held = ap (λ (l : List LayerHead). layerAt l x) (headsOf-layersAt r (take r layers) blocks) ∙ layerAt-take
+
+  pub blocksAt-held : blocksAt (heldLayers r layers blocks) x .rows ≡ rowsAt r (layerAt layers x .size) (drop (sizes (take x layers) * r) blocks)
+  blocksAt-held =
+      blocksAt-layersAt r (take r layers) blocks x
+      ∙ rw (layerAt-take, take-take x r layers (omega arith))
+
+-- the layers below x and the one at x, r bytes a row, are within all
+below-fits : (heads : List LayerHead) (r x s : ℕ) → x < s → sizes (take x heads) * r + layerAt heads x .size * r ≤ sizes (take s heads) * r
+below-fits heads r x s h =
+    let m = mul-le-mul (sizes-take-le heads (x + 1) s (omega arith)) (le-refl r) in
+    omega (arith, rw (sizes-take-suc heads x) at m)
 
 -- c rows of r bytes each take c × r bytes
-pub length-repeated-rows : (r n c : ℕ) (blocks : List ℕ) → n * r ≤ length blocks → (0 < c → 0 < n)
+length-repeated-rows : (r n c : ℕ) (blocks : List ℕ) → n * r ≤ length blocks → (0 < c → 0 < n)
     → length (flatten (repeated (rowsAt r n blocks) c)) ≡ c * r
 length-repeated-rows r n c blocks fits some =
-    length-flatten-rows r (repeated (rowsAt r n blocks) c)
+    length-flatten r (repeated (rowsAt r n blocks) c)
     (repeated-rows (λ row. length row ≡ r) c c (rowsAt r n blocks) (rw (length-rowsAt r n blocks) (enough c some)) (rowsAt-lengths r n blocks fits))
     ∙ ap (λ l. l * r) (length-repeated (rowsAt r n blocks) c)
   where
@@ -51,106 +65,120 @@ length-repeated-rows r n c blocks fits some =
     enough zero h = omega arith
     enough (suc c) h = let m = mul-le-mul (le-refl (suc c)) (h (omega arith)) in omega arith
 
-pub rowsBelow-suc : (r : ℕ) (blocks m counts : List ℕ) (x : ℕ)
-    → rowsBelow r blocks m counts (suc x) ≡ rowsBelow r blocks m counts x ++ flatten (layerRows r blocks m counts x)
+-- the rows of layer x
+abbrev layerRows : (blocks : List Layer) (heads : List LayerHead) (x : ℕ) → List (List ℕ)
+layerRows blocks heads x = repeated (blocksAt blocks x .rows) (layerAt heads x .size)
+
+rowsBelow-suc : (blocks : List Layer) (heads : List LayerHead) (x : ℕ)
+    → rowsBelow blocks heads (suc x) ≡ rowsBelow blocks heads x ++ flatten (layerRows blocks heads x)
 unfolding flatten
-rowsBelow-suc r blocks m counts x =
-    let f = layerRows r blocks m counts in
+rowsBelow-suc blocks heads x =
+    let f = layerRows blocks heads in
     ap (λ (l : List (List (List ℕ))). flatten (flatten l)) (map-upTo-suc f x)
     ∙ ap flatten (flatten-append (map f (upTo x)) (f x ∷ []) ∙ ap (λ (l : List (List ℕ)). flatten (map f (upTo x)) ++ l) (append-nil (f x)))
     ∙ flatten-append (flatten (map f (upTo x))) (f x)
 
 -- each layer's rows, and those of the layers below x, take r bytes a record
-module _ (r s : ℕ) (blocks m counts : List ℕ) (blocks-fit : totalBelow m s * r ≤ length blocks)
-    (some : (x : ℕ) → x < s → 0 < getD counts x 0 → 0 < getD m x 0) where
-  pub length-layerRows : (x : ℕ) → x < s → length (flatten (layerRows r blocks m counts x)) ≡ getD counts x 0 * r
-  length-layerRows x h =
-      length-repeated-rows r (getD m x 0) (getD counts x 0) (drop (totalBelow m x * r) blocks)
-      (rw (length-drop (totalBelow m x * r) blocks) (omega (arith, below-fits m r x s h)))
-      (some x h)
+module _ {r s : ℕ} {layers heads : List LayerHead} {blocks out : List ℕ} (fit : RowsFit r s layers heads blocks out) where
+  abbrev held : List Layer
+  held = heldLayers r layers blocks
 
-  pub length-rowsBelow : (x : ℕ) → x ≤ s → length (rowsBelow r blocks m counts x) ≡ totalBelow counts x * r
+  length-layerRows : (x : ℕ) → x < s → length (flatten (layerRows held heads x)) ≡ layerAt heads x .size * r
+  length-layerRows x h =
+      rw (blocksAt-held r layers blocks x (omega (arith, fit .s-below)))
+      (length-repeated-rows r (layerAt layers x .size) (layerAt heads x .size) (drop (sizes (take x layers) * r) blocks)
+      (rw (length-drop (sizes (take x layers) * r) blocks) (omega (arith, below-fits layers r x s h, fit .blocks-fit)))
+      (fit .some-blocks x h))
+
+  pub length-rowsBelow : (x : ℕ) → x ≤ s → length (rowsBelow held heads x) ≡ sizes (take x heads) * r
   unfolding flatten upTo total
   length-rowsBelow zero h = omega arith
   length-rowsBelow (suc x) h =
       rw (
-        rowsBelow-suc r blocks m counts x,
-        length-append (rowsBelow r blocks m counts x),
+        rowsBelow-suc held heads x,
+        length-append (rowsBelow held heads x),
         length-rowsBelow x (omega arith),
         length-layerRows x h,
-        totalBelow-suc counts x,
+        ← add-one x,
+        sizes-take-suc heads x,
       )
       (omega arith)
 
 -- The rows of the layers below x are written. The next layer's begin at byte `to`, and its blocks at byte `from`; from `to`
 -- on the bytes are as they were.
-pub record LayersWritten (out₀ blocks : List ℕ) (r s : ℕ) (m counts out : List ℕ) (to from x : ℕ) : Type 0 where
+pub record LayersWritten (r s : ℕ) (layers heads : List LayerHead) (blocks out₀ out : List ℕ) (to from x : ℕ) : Type 0 where
   pub within : x ≤ s
-  pub place : to ≡ totalBelow counts x * r
-  pub source : from ≡ totalBelow m x * r
+  pub place : to ≡ sizes (take x heads) * r
+  pub source : from ≡ sizes (take x layers) * r
   pub same : length out ≡ length out₀
-  pub bytes : out ≡ rowsBelow r blocks m counts x ++ drop to out₀
+  pub bytes : out ≡ rowsBelow (heldLayers r layers blocks) heads x ++ drop to out₀
 
-pub layers-none : (out blocks : List ℕ) (r s : ℕ) (m counts : List ℕ) → LayersWritten out blocks r s m counts out 0 0 0
+pub layers-none : (r s : ℕ) (layers heads : List LayerHead) (blocks out : List ℕ)
+    → LayersWritten r s layers heads blocks out out 0 0 0
 unfolding flatten upTo total
-layers-none out blocks r s m counts =
+layers-none r s layers heads blocks out =
     record { within = omega arith; place = omega arith; source = omega arith; same = refl; bytes = refl }
 
-module _ {out₀ blocks : List ℕ} {r s : ℕ} {m counts out : List ℕ} {to from x : ℕ}
-    (w : LayersWritten out₀ blocks r s m counts out to from x)
-    (rows-fit : totalBelow counts s * r ≤ length out₀) (blocks-fit : totalBelow m s * r ≤ length blocks)
-    (some : (x : ℕ) → x < s → 0 < getD counts x 0 → 0 < getD m x 0) where
-  taken : length (rowsBelow r blocks m counts x) ≡ to
-  taken = length-rowsBelow r s blocks m counts blocks-fit some x (w .within) ∙ sym (w .place)
+module _ {r s : ℕ} {layers heads : List LayerHead} {blocks out₀ out : List ℕ} {to from x : ℕ}
+    (w : LayersWritten r s layers heads blocks out₀ out to from x) (fit : RowsFit r s layers heads blocks out₀) where
+  -- what is written, the next layer's rows, and both
+  abbrev rows : ℕ → List ℕ
+  rows y = rowsBelow (heldLayers r layers blocks) heads y
+
+  abbrev layer : List ℕ
+  layer = flatten (layerRows (heldLayers r layers blocks) heads x)
+
+  taken : length (rows x) ≡ to
+  taken = length-rowsBelow fit x (w .within) ∙ sym (w .place)
 
   -- in a turn
   module _ (h : x < s) where
-    pub layer-fits : to + getD counts x 0 * r ≤ length out
-    layer-fits = omega (arith, below-fits counts r x s h, w .place, w .same)
+    pub layer-fits : to + layerAt heads x .size * r ≤ length out
+    layer-fits = omega (arith, below-fits heads r x s h, w .place, w .same, fit .rows-fit)
 
-    pub blocks-within : from + getD m x 0 * r ≤ length blocks
-    blocks-within = omega (arith, below-fits m r x s h, w .source)
+    pub blocks-within : from + layerAt layers x .size * r ≤ length blocks
+    blocks-within = omega (arith, below-fits layers r x s h, w .source, fit .blocks-fit)
 
-    pub lent-blocks-fit : getD m x 0 * r ≤ length (take (length blocks - from) (drop from blocks))
-    lent-blocks-fit = rw (take-drop-rest blocks from, length-drop from blocks) (omega (arith, blocks-within))
+    -- what writing the layer's rows asks of the parts that are lent
+    pub lent-fit : (layerAt heads x .size * r ≤ length (take (length out - to) (drop to out)))
+        × ((layerAt layers x .size * r ≤ length (take (length blocks - from) (drop from blocks)))
+        × (0 < layerAt heads x .size → 0 < layerAt layers x .size))
+    lent-fit = (
+      rw (take-drop-rest out to, length-drop to out) (omega (arith, layer-fits)),
+      (rw (take-drop-rest blocks from, length-drop from blocks) (omega (arith, blocks-within)), fit .some-blocks x h),
+    )
 
-    pub lent-out-fits : getD counts x 0 * r ≤ length (take (length out - to) (drop to out))
-    lent-out-fits = rw (take-drop-rest out to, length-drop to out) (omega (arith, layer-fits))
-
-    -- the next layer's rows
-    abbrev layer : List ℕ
-    layer = flatten (layerRows r blocks m counts x)
-
-    length-layer : length layer ≡ getD counts x 0 * r
-    length-layer = length-layerRows r s blocks m counts blocks-fit some x h
+    length-layer : length layer ≡ layerAt heads x .size * r
+    length-layer = length-layerRows fit x h
 
     module _ (last : List ℕ)
         (e : last
-        ≡ flatten (repeated (rowsAt r (getD m x 0) (take (length blocks - from) (drop from blocks))) (getD counts x 0))
-        ++ drop (getD counts x 0 * r) (take (length out - to) (drop to out))) where
-      wrote : givenBack out to last ≡ rowsBelow r blocks m counts x ++ layer ++ drop (to + length layer) out₀
+        ≡ flatten (repeated (rowsAt r (layerAt layers x .size) (take (length blocks - from) (drop from blocks))) (layerAt heads x .size))
+        ++ drop (layerAt heads x .size * r) (take (length out - to) (drop to out))) where
+      wrote : givenBack out to last ≡ rows x ++ layer ++ drop (to + length layer) out₀
       wrote =
-          write-part (rowsBelow r blocks m counts x) layer out₀ out last to taken (w .bytes)
-          (e ∙ rw (take-drop-rest blocks from, w .source, length-layer))
+          write-part (rows x) layer out₀ out last to taken (w .bytes)
+          (e ∙ rw (take-drop-rest blocks from, w .source, length-layer, blocksAt-held r layers blocks x (omega (arith, fit .s-below))))
 
-      next-bytes : givenBack out to last ≡ rowsBelow r blocks m counts (x + 1) ++ drop (to + getD counts x 0 * r) out₀
-      next-bytes = wrote ∙ rw (length-layer, add-one x, rowsBelow-suc r blocks m counts x)
+      next-bytes : givenBack out to last ≡ rows (x + 1) ++ drop (to + layerAt heads x .size * r) out₀
+      next-bytes = wrote ∙ rw (length-layer, add-one x, rowsBelow-suc (heldLayers r layers blocks) heads x)
 
-      next-taken : length (rowsBelow r blocks m counts (x + 1)) ≡ to + getD counts x 0 * r
+      next-taken : length (rows (x + 1)) ≡ to + layerAt heads x .size * r
       next-taken =
-          rw (add-one x, rowsBelow-suc r blocks m counts x, length-append (rowsBelow r blocks m counts x), taken, length-layer)
+          rw (add-one x, rowsBelow-suc (heldLayers r layers blocks) heads x, length-append (rows x), taken, length-layer)
 
-      pub layers-next : LayersWritten out₀ blocks r s m counts (givenBack out to last) (to + getD counts x 0 * r) (from + getD m x 0 * r) (x + 1)
+      pub layers-next : LayersWritten r s layers heads blocks out₀ (givenBack out to last) (to + layerAt heads x .size * r)
+          (from + layerAt layers x .size * r) (x + 1)
       layers-next = record {
         within = omega arith;
-        place = rw (add-one x, totalBelow-suc counts x) (omega (arith, w .place));
-        source = rw (add-one x, totalBelow-suc m x) (omega (arith, w .source));
+        place = rw (sizes-take-suc heads x) (omega (arith, w .place));
+        source = rw (sizes-take-suc layers x) (omega (arith, w .source));
         same = ap length next-bytes ∙ simp (length-append, length-drop) (omega (arith, next-taken, layer-fits, w .same));
         bytes = next-bytes;
       }
 
-  pub layers-all : s ≤ x → out ≡ beginning (rowsBelow r blocks m counts s) out₀
+  pub layers-all : s ≤ x → out ≡ overStart (rows s) out₀
   layers-all h =
       let all : x ≡ s = omega (arith, w .within) in
-      let e : out ≡ beginning (rowsBelow r blocks m counts x) out₀ = rw taken (w .bytes) in
+      let e : out ≡ overStart (rows x) out₀ = rw taken (w .bytes) in
       rw (← all) e

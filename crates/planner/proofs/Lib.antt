@@ -1,7 +1,7 @@
-pub mod Worked
+pub mod Blocks
+pub mod Checks
 pub mod Placed
 pub mod Planned
 pub mod Layering
-pub mod Arrays
 pub mod Committed
-pub mod Steps
+pub mod Worked

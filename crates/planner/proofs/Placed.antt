@@ -3,24 +3,20 @@ use Prim.Native.Nat.{ℕ, zero, suc, _+_, _*_, _≤_, _<_, suc-le-suc}
 use native.Mathlib.Omega.{arith}
 use native.Mathlib.Nat.{not-suc-le-zero, le-of-suc-le-suc, zero-lt-suc, add-zero, suc-add, add-suc}
 use mathlib.Core.Path.{_≡_, refl, sym, _∙_, ap, subst}
-use mathlib.Core.List.{List, [], _∷_, map, flatten}
+use mathlib.Core.List.{List, [], _∷_, map, map-map, flatten}
 use lib.ListN.{length}
 use Rattle.lists.specs.Lists.{All, upTo}
 use Rattle.lists.proofs.Alls.{all-append-left, all-append-right, all-map, all-flatten}
 use Rattle.lists.proofs.UpTo.{length-map-upTo, all-upTo, getD-map-upTo, map-upTo-congr}
 use Rattle.packing.specs.Rows.{Row, Packing}
 use Rattle.packing.proofs.Copies.{copies-packing, repeated-rows, length-repeated}
-use Rattle.layers.specs.Layers.{Layer, LayerHead, size, allRows, headsOf, Packings}
+use Rattle.layers.specs.Layers.{Layer, allRows, headOf, headsOf, Packings}
 use Rattle.pack.specs.Pack.{Pack, GoodPack}
 use Rattle.placement.specs.Figure.{figureOf}
-use Rattle.placement.specs.Placement.{PlacementLimits, GoodPlacement}
+use Rattle.placement.specs.Placement.{OrderLimits, PlacementLimits, GoodPlacement}
 use Rattle.split.specs.Splits.{Share, layerAt, shareHead, splitHeads, Split}
-use Rattle.planner.specs.Planning.{blocksAt, placed, splitPlacement, OrderLimits}
-
--- map after map
-map-map : {A B C : Type 0} (g : B → C) (f : A → B) (l : List A) → map g (map f l) ≡ map (λ a. g (f a)) l
-map-map g f [] = refl
-map-map g f (a ∷ l) = ap (λ t. g (f a) ∷ t) (map-map g f l)
+use Rattle.split.proofs.Heads.{splitHeads-congr}
+use Rattle.planner.specs.Planning.{blocksAt, placed, splitPlacement}
 
 -- what holds of all rows holds of one layer's
 layer-rows : (P : List ℕ → Type 0) (layers : List Layer) (x : ℕ) → All P (allRows layers) → All P (blocksAt layers x .rows)
@@ -29,15 +25,9 @@ layer-rows P [] x h = tt
 layer-rows P (layer ∷ layers) zero h = all-append-left P (layer .rows) (allRows layers) h
 layer-rows P (layer ∷ layers) (suc x) h = layer-rows P layers x (all-append-right P (layer .rows) (allRows layers) h)
 
--- what holds of all layers holds of one
-pub layer-all : (P : Layer → Type 0) (layers : List Layer) (x : ℕ) → P (record { bound = 0; rows = [] }) → All P layers → P (blocksAt layers x)
-layer-all P [] x d h = d
-layer-all P (layer ∷ layers) zero d h = h .0
-layer-all P (layer ∷ layers) (suc x) d h = layer-all P layers x d (h .1)
-
 -- layer x's two numbers
 pub layerAt-heads : (layers : List Layer) (x : ℕ)
-    → layerAt (headsOf layers) x ≡ record { bound = blocksAt layers x .bound; size = size (blocksAt layers x) }
+    → layerAt (headsOf layers) x ≡ headOf (blocksAt layers x)
 layerAt-heads [] x = refl
 layerAt-heads (layer ∷ layers) zero = refl
 layerAt-heads (layer ∷ layers) (suc x) = layerAt-heads layers x
@@ -63,37 +53,25 @@ module _ (pack : Pack) (s k b : ℕ) (split : ℕ → Share) where
   abbrev placedAt : ℕ → Layer
   placedAt x = placed (blocksAt (pack .layers) x) (split x)
 
-  placed-head : (x : ℕ)
-      → _≡_ {A = LayerHead} (record { bound = placedAt x .bound; size = size (placedAt x) })
-      (shareHead (layerAt (headsOf (pack .layers)) x) (split x))
+  placed-head : (x : ℕ) → headOf (placedAt x) ≡ shareHead (layerAt (headsOf (pack .layers)) x) (split x)
   placed-head x = rw (length-repeated (blocksAt (pack .layers) x .rows) (split x .count), layerAt-heads (pack .layers) x)
 
   -- the placement's head numbers are the split's
   pub heads-placed : headsOf (map placedAt (upTo s)) ≡ splitHeads (headsOf (pack .layers)) s split
   heads-placed =
-      map-map (λ layer. record { bound = layer .bound; size = size layer }) placedAt (upTo s)
-      ∙ map-upTo-congr _ _ s (λ x lt. placed-head x)
+      map-map headOf placedAt (upTo s) ∙ map-upTo-congr _ _ s (λ x lt. placed-head x)
 
-  module _ (good : GoodPack pack) (order : OrderLimits pack s k b) (is : Split (headsOf (pack .layers)) s b split)
+  module _ (good : GoodPack pack) (order : OrderLimits (pack .n) (pack .r) (record { s = s; k = k; b = b })) (is : Split (headsOf (pack .layers)) s b split)
       (lambdas : (x : ℕ) → x < s → split x .copies * layerAt (headsOf (pack .layers)) x .bound ≤ 16_777_216) where
-    held : (x : ℕ) → x < s → split x .count ≤ split x .copies * size (blocksAt (pack .layers) x)
+    held : (x : ℕ) → x < s → split x .count ≤ split x .copies * length (blocksAt (pack .layers) x .rows)
     held x lt = rw (layerAt-heads (pack .layers) x) at (is .held x lt)
 
     placed-limits : PlacementLimits (splitPlacement pack s k b split)
     unfolding splitPlacement
     placed-limits =
         record {
-          n-least = good .limits .n-least;
-          n-most = good .limits .n-most;
-          r-least = good .limits .r-least;
-          r-most = good .limits .r-most;
-          r-nodes = good .limits .r-nodes;
-          s-least = order .s-least;
-          s-most = order .s-most;
-          k-least = order .k-least;
-          k-most = order .k-most;
-          b-least = order .b-least;
-          b-most = order .b-most;
+          base = good .limits .base;
+          order = order;
           layer-each = length-map-upTo placedAt s;
           lambda-most = all-map _ placedAt (upTo s) (all-upTo _ s (λ x lt. rw (layerAt-heads (pack .layers) x) at (lambdas x lt)));
           records-all = rw heads-placed (is .sum);
@@ -129,3 +107,12 @@ module _ (pack : Pack) (s k b : ℕ) (split : ℕ → Share) where
     unfolding splitPlacement
     placed-good =
         record { limits = placed-limits; rows = placed-rows; packings = placed-packings; formula = ap (figureOf s k b) (sym heads-placed) }
+
+-- a placement looks at the split's layers below s alone
+pub splitPlacement-congr : (pack : Pack) (s k b : ℕ) (a c : ℕ → Share) → ((x : ℕ) → x < s → a x ≡ c x)
+    → splitPlacement pack s k b a ≡ splitPlacement pack s k b c
+unfolding splitPlacement
+splitPlacement-congr pack s k b a c h =
+    let figure = ap (figureOf s k b) (splitHeads-congr (headsOf (pack .layers)) s a c h) in
+    let layers = map-upTo-congr _ _ s (λ x l. ap (placed (blocksAt (pack .layers) x)) (h x l)) in
+    λ i. record { n = pack .n; r = pack .r; s = s; k = k; b = b; figure = figure i; layers = layers i }

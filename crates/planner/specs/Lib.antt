@@ -1,4 +1,4 @@
 pub mod Planning
 pub mod Answers
 pub mod Writing
-pub mod Steps
+pub mod SevenCabinets

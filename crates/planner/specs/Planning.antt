@@ -1,17 +1,19 @@
 -- Document 01, "Planning": the placement that is written, and the whole answer. Assumes nothing.
-use Prim.Native.Nat.{ℕ, suc, _+_, _*_, _≤_, _<_}
+use Prim.Native.Nat.{ℕ, suc, _+_, _*_, _≤_}
 use mathlib.Core.Path.{_≡_}
 use mathlib.Core.Bool.{_&&_}
 use mathlib.Core.List.{List, [], map}
 use lib.ListN.{length, getD, drop}
-use lib.Dec.{leb, ltb}
+use lib.Dec.{T, leb, ltb}
 use Rattle.lists.specs.Lists.{upTo}
 use Rattle.refusal.specs.declared.Refusal.the-variants.{BadOrder, NoBlock, ShortWork, ShortOutput}
 use Rattle.refusal.specs.Checked.{Checked, accepted, refused, _>>=_, require, mapAccepted, written}
 use Rattle.packing.specs.Rows.{repeated}
 use Rattle.layers.specs.Layers.{Layer, headsOf}
+use Rattle.layers.specs.declared.LayerHead.{LayerHead}
 use Rattle.pack.specs.Pack.{Pack, checkPack}
-use Rattle.placement.specs.Placement.{Placement, placementBytes}
+use Rattle.placement.specs.Placement.{Placement, OrderLimits, placementBytes}
+use Rattle.placement.specs.declared.Order.{Order}
 use Rattle.split.specs.Splits.{Share, splitFigure, hasBlock, namedSplit}
 
 -- layer x of a pack; none where there is no such layer
@@ -40,45 +42,62 @@ splitPlacement pack s k b split =
 unfoldable pub namedPlacement : Pack → (s k b : ℕ) → Placement
 namedPlacement pack s k b = splitPlacement pack s k b (namedSplit (headsOf (pack .layers)) s k b)
 
--- demand 3: "every s, k and b within limits": "s 1..r; k s..n-1; b 1..4,096"
-pub record OrderLimits (pack : Pack) (s k b : ℕ) : Type 0 where
-  pub s-least : 1 ≤ s
-  pub s-most : s ≤ pack .r
-  pub k-least : s ≤ k
-  pub k-most : k < pack .n
-  pub b-least : 1 ≤ b
-  pub b-most : b ≤ 4_096
-
 -- "s 1..r; k s..n-1; b 1..4,096"; "s, k or b outside limits": refusal 12, place "0, 1 or 2 in that order"
-unfoldable pub checkOrder : Pack → (s k b : ℕ) → Checked Unit
-checkOrder pack s k b = do
-  _ ← require (leb 1 s && leb s (pack .r)) (BadOrder 0)
-  _ ← require (leb s k && ltb k (pack .n)) (BadOrder 1)
-  require (leb 1 b && leb b 4_096) (BadOrder 2)
+unfoldable pub checkOrder : (n r : ℕ) → Order → Checked Unit
+checkOrder n r order = do
+  _ ← require (leb 1 (order .s) && leb (order .s) r) (BadOrder 0)
+  _ ← require (leb (order .s) (order .k) && ltb (order .k) n) (BadOrder 1)
+  require (leb 1 (order .b) && leb (order .b) 4_096) (BadOrder 2)
 
--- "Planning checks the pack, then 12, 9": the placement, before the lent slices are looked at
-unfoldable pub planned : (bytes : List ℕ) (s k b : ℕ) → Checked Placement
-planned bytes s k b = do
-  pack ← checkPack bytes
-  _ ← checkOrder pack s k b
-  _ ← require (hasBlock (headsOf (pack .layers)) s) NoBlock
-  accepted (namedPlacement pack s k b)
+-- "no block in any layer below s": refusal 9
+unfoldable pub checkBlocks : List LayerHead → (s : ℕ) → Checked Unit
+checkBlocks layers s = require (hasBlock layers s) NoBlock
 
 -- "the working slice of 16-bit numbers at least s × (b+1) entries"
 abbrev pub workNeeded : (s b : ℕ) → ℕ
 workNeeded s b = s * suc b
 
+-- "working slice too short": refusal 10, place "entries needed"
+unfoldable pub checkWork : Order → (work : ℕ) → Checked Unit
+checkWork order work =
+    require (leb (workNeeded (order .s) (order .b)) work) (ShortWork (workNeeded (order .s) (order .b)))
+
 -- "The output must have at least 64 + b × r bytes"
 abbrev pub outputNeeded : (b r : ℕ) → ℕ
 outputNeeded b r = 64 + b * r
 
--- "then 12, 9, 10, 11": planning with slices of these lengths
-unfoldable pub plan : (bytes : List ℕ) (s k b work output : ℕ) → Checked Placement
-plan bytes s k b work output = do
-  p ← planned bytes s k b
-  _ ← require (leb (workNeeded s b) work) (ShortWork (workNeeded s b))
-  _ ← require (leb (outputNeeded b (p .r)) output) (ShortOutput (outputNeeded b (p .r)))
-  accepted p
+-- "output too short": refusal 11, place "bytes needed"
+unfoldable pub checkOutput : (b r output : ℕ) → Checked Unit
+checkOutput b r output = require (leb (outputNeeded b r) output) (ShortOutput (outputNeeded b r))
+
+-- "then 12, 9, 10, 11": planning on an accepted pack, with slices of these lengths
+unfoldable pub planPack : Pack → Order → (work output : ℕ) → Checked Placement
+planPack pack order work output = do
+  _ ← checkOrder (pack .n) (pack .r) order
+  _ ← checkBlocks (headsOf (pack .layers)) (order .s)
+  _ ← checkWork order work
+  _ ← checkOutput (order .b) (pack .r) output
+  accepted (namedPlacement pack (order .s) (order .k) (order .b))
+
+-- an order that passes the four checks
+pub record Fits (pack : Pack) (order : Order) (work output : ℕ) : Type 0 where
+  pub within : OrderLimits (pack .n) (pack .r) order
+  pub block : T (hasBlock (headsOf (pack .layers)) (order .s))
+  pub work-fits : workNeeded (order .s) (order .b) ≤ work
+  pub output-fits : outputNeeded (order .b) (pack .r) ≤ output
+
+-- "Planning checks the pack", then the rest
+unfoldable pub plan : (bytes : List ℕ) → Order → (work output : ℕ) → Checked Placement
+plan bytes order work output = do
+  pack ← checkPack bytes
+  planPack pack order work output
+
+-- the entries and the bytes that no order needs more of: s 5 and b 4,096, with r 5
+abbrev pub workMost : ℕ
+workMost = workNeeded 5 4_096
+
+abbrev pub outputMost : ℕ
+outputMost = outputNeeded 4_096 5
 
 -- the output slice afterwards
 abbrev pub outputAfter : Checked Placement → List ℕ → List ℕ
@@ -86,7 +105,7 @@ outputAfter answer output = written (mapAccepted placementBytes answer) output
 
 -- the working slice afterwards: "After success the working slice's contents are free", and "entries past the written
 -- length don't change"
-abbrev pub WorkAfter : Checked Placement → (s b : ℕ) (before after : List ℕ) → Type 0
-WorkAfter (accepted p) s b before after =
-    (length after ≡ length before) × (drop (workNeeded s b) after ≡ drop (workNeeded s b) before)
-WorkAfter (refused e) s b before after = after ≡ before
+abbrev pub WorkAfter : Checked Placement → (before after : List ℕ) → Type 0
+WorkAfter (accepted p) before after =
+    (length after ≡ length before) × (drop (workNeeded (p .s) (p .b)) after ≡ drop (workNeeded (p .s) (p .b)) before)
+WorkAfter (refused e) before after = after ≡ before

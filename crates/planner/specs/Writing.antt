@@ -1,64 +1,65 @@
 -- Writing a split's placement: what the code's arrays and bytes stand for. Assumes nothing.
-use Prim.Native.Nat.{ℕ, _*_, _≤_}
-use mathlib.Core.List.{List, _∷_, _++_, map, flatten}
-use lib.ListN.{length, getD, drop}
-use Rattle.lists.specs.Lists.{total, upTo}
-use Rattle.number.specs.Numbers.{numberBytes}
-use Rattle.packing.specs.Rows.{rowsAt, repeated}
-use Rattle.layers.specs.Layers.{sizes, headsOf, headNumbers, layersAt}
-use Rattle.layers.specs.Answers.{arrayHeads}
+use Prim.Native.Nat.{ℕ, _*_, _≤_, _<_}
+use mathlib.Core.List.{List, _∷_, map, flatten}
+use lib.ListN.{length, getD, take}
+use Rattle.lists.specs.Lists.{upTo}
+use Rattle.packing.specs.Rows.{repeated}
+use Rattle.layers.specs.Layers.{Layer, sizes, headsOf, headNumbers, layersAt}
+use Rattle.layers.specs.declared.Base.{Base}
+use Rattle.layers.specs.declared.LayerHead.{LayerHead}
 use Rattle.pack.specs.Pack.{Pack, GoodPack}
-use Rattle.placement.specs.Placement.{Placement}
-use Rattle.split.specs.Splits.{Split, copiesFor, countsSplit}
-use Rattle.planner.specs.Planning.{OrderLimits, splitPlacement}
+use Rattle.placement.specs.Placement.{Placement, OrderLimits}
+use Rattle.placement.specs.declared.Order.{Order}
+use Rattle.split.specs.Splits.{Split, layerAt, countsSplit}
+use Rattle.planner.specs.Planning.{blocksAt, splitPlacement}
 
--- the numbers' shortest forms one after another
-abbrev pub formsOf : List ℕ → List ℕ
-formsOf numbers = flatten (map numberBytes numbers)
+-- the layers below r, of the code's five, whose blocks the bytes begin with
+abbrev pub heldLayers : (r : ℕ) (layers : List LayerHead) (blocks : List ℕ) → List Layer
+heldLayers r layers blocks = layersAt r (take r layers) blocks
 
--- the slice with `bytes` at its start: "bytes or entries past the written length don't change"
-abbrev pub beginning : (bytes slice : List ℕ) → List ℕ
-beginning bytes slice = bytes ++ drop (length bytes) slice
-
--- the sum of an array's entries below x
-abbrev pub totalBelow : (array : List ℕ) (x : ℕ) → ℕ
-totalBelow array x = total (map (λ y. getD array y 0) (upTo x))
-
--- "its lambda is d × mu", with the least d
-abbrev pub lambdaOf : (mu m counts : List ℕ) (x : ℕ) → ℕ
-lambdaOf mu m counts x = copiesFor (getD counts x 0) (getD m x 0) * getD mu x 0
-
--- the rows of layer x, where the bytes are the blocks of all layers
-abbrev pub layerRows : (r : ℕ) (blocks m counts : List ℕ) (x : ℕ) → List (List ℕ)
-layerRows r blocks m counts x =
-    repeated (rowsAt r (getD m x 0) (drop (totalBelow m x * r) blocks)) (getD counts x 0)
-
--- the rows of the layers below x, "layer by layer"
-abbrev pub rowsBelow : (r : ℕ) (blocks m counts : List ℕ) (x : ℕ) → List ℕ
-rowsBelow r blocks m counts x = flatten (flatten (map (layerRows r blocks m counts) (upTo x)))
-
--- the pack whose blocks the bytes begin with
-abbrev pub arrayPack : (n r : ℕ) (mu m blocks : List ℕ) → Pack
-arrayPack n r mu m blocks = record { n = n; r = r; layers = layersAt r (arrayHeads r mu m) blocks }
+-- and their pack
+abbrev pub heldPack : Base → (layers : List LayerHead) (blocks : List ℕ) → Pack
+heldPack base layers blocks = record { n = base .n; r = base .r; layers = heldLayers (base .r) layers blocks }
 
 -- the placement of the split with these counts
-abbrev pub countsPlacement : Pack → (s k b : ℕ) (counts : List ℕ) → Placement
-countsPlacement pack s k b counts = splitPlacement pack s k b (countsSplit (headsOf (pack .layers)) counts)
+abbrev pub countsPlacement : Pack → Order → (counts : List ℕ) → Placement
+countsPlacement pack order counts =
+    splitPlacement pack (order .s) (order .k) (order .b) (countsSplit (headsOf (pack .layers)) counts)
 
--- the numbers of a placement's head, from the code's arrays
-abbrev pub headList : (n r s k b figure : ℕ) (lambda c : List ℕ) → List ℕ
-headList n r s k b figure lambda c = 2 ∷ n ∷ r ∷ s ∷ k ∷ b ∷ figure ∷ headNumbers (arrayHeads s lambda c)
+-- the numbers of a placement's head
+abbrev pub writtenNumbers : Base → Order → (figure : ℕ) → List LayerHead → List ℕ
+writtenNumbers base order figure heads =
+    2 ∷ base .n ∷ base .r ∷ order .s ∷ order .k ∷ order .b ∷ figure ∷ headNumbers heads
+
+-- the rows of the layers below x, "layer by layer", with the counts in the placement's head: "Row j (from 0) of a layer is
+-- its block j mod m"
+abbrev pub rowsBelow : (blocks : List Layer) (heads : List LayerHead) (x : ℕ) → List ℕ
+rowsBelow blocks heads x =
+    flatten (flatten (map (λ y. repeated (blocksAt blocks y .rows) (layerAt heads y .size)) (upTo x)))
 
 -- what planning on a pack asks of its numbers and its blocks, as the code has them
-pub record PackHeld (n r : ℕ) (mu m blocks : List ℕ) : Type 0 where
-  pub good : GoodPack (arrayPack n r mu m blocks)
-  pub mu-most : (x : ℕ) → getD mu x 0 ≤ 4_096
-  pub m-most : (x : ℕ) → getD m x 0 ≤ 4_096
-  pub whole : sizes (arrayHeads r mu m) * r ≤ length blocks
+pub record PackHeld (base : Base) (layers : List LayerHead) (blocks : List ℕ) : Type 0 where
+  pub good : GoodPack (heldPack base layers blocks)
+  pub whole : sizes (take (base .r) layers) * base .r ≤ length blocks
+  pub most : (x : ℕ) → (layerAt layers x .bound ≤ 4_096) × (layerAt layers x .size ≤ 4_096)
 
 -- what writing a split's placement asks: an order within limits, and counts that are a split
-pub record Writable (n r : ℕ) (mu m blocks : List ℕ) (s k b : ℕ) (counts : List ℕ) : Type 0 where
-  pub held : PackHeld n r mu m blocks
-  pub order : OrderLimits (arrayPack n r mu m blocks) s k b
-  pub is-split : Split (headsOf (arrayPack n r mu m blocks .layers)) s b
-      (countsSplit (headsOf (arrayPack n r mu m blocks .layers)) counts)
+pub record Writable (base : Base) (layers : List LayerHead) (blocks : List ℕ) (order : Order) (counts : List ℕ) : Type 0 where
+  pub held : PackHeld base layers blocks
+  pub within : OrderLimits (base .n) (base .r) order
+  pub is-split : Split layers (order .s) (order .b) (countsSplit layers counts)
+
+-- what the two numbers of each layer of a split's placement ask
+pub record SharesFit (layers : List LayerHead) (s : ℕ) (counts : List ℕ) : Type 0 where
+  pub s-most : s ≤ 5
+  pub most : (x : ℕ) → (layerAt layers x .bound ≤ 4_096) × (layerAt layers x .size ≤ 4_096)
+  pub count-most : (x : ℕ) → x < s → getD counts x 0 ≤ 4_096
+
+-- what writing the rows of the layers below s asks: they and their blocks are within the slices, and a layer with records
+-- has blocks
+pub record RowsFit (r s : ℕ) (layers heads : List LayerHead) (blocks out : List ℕ) : Type 0 where
+  pub s-most : s ≤ 5
+  pub s-below : s ≤ r
+  pub rows-fit : sizes (take s heads) * r ≤ length out
+  pub blocks-fit : sizes (take s layers) * r ≤ length blocks
+  pub some-blocks : (x : ℕ) → x < s → 0 < layerAt heads x .size → 0 < layerAt layers x .size

@@ -12,9 +12,3 @@ pub struct PlanResult {
     pub answer: PlanAnswer,
     pub counts: [usize; 5],
 }
-
-// What the checks give: the order can be planned, or the refusal.
-pub enum OrderAnswer {
-    Good,
-    Refused(Refusal),
-}

@@ -1,61 +1,81 @@
-// The checks before planning: refusal 12, then 9, 10 and 11.
-mod limits;
-
-use planner::OrderAnswer;
+// The checks before planning, one each for refusals 12, 9, 10 and 11.
+use layers::Base;
+use layers::LayerHead;
+use placement::Order;
 use refusal::Refusal;
+use refusal::Verdict;
 ghost use mathlib.Core.Path.{_≡_};
-ghost use Prim.Native.Nat.{ℕ, _≤_};
-ghost use mathlib.Core.List.{List};
-ghost use lib.ListN.{getD};
-ghost use lib.Dec.{ltb};
-ghost use Rattle.lists.specs.Lists.{any, upTo};
-ghost use Rattle.planner.specs.Steps.{orderAnswer, checkSteps};
-ghost use Rattle.planner.specs.Writing.{arrayPack};
+ghost use Prim.Native.Nat.{_≤_};
+ghost use Rattle.refusal.specs.Checked.{verdict};
+ghost use Rattle.planner.specs.Planning.{checkOrder, checkBlocks, checkWork, checkOutput};
 
-// Whether some layer below s has a block.
-fn has_block(m: [usize; 5], s: usize) -> bool
+// Whether s is 1..r, k is s..n-1 and b is 1..4,096, or refusal 12.
+pub fn check_order(base: Base, order: Order) -> Verdict
+    ensures { λ answer. ⌜ answer ≡ verdict (checkOrder (base .n) (base .r) order) ⌝ }
+{
+    let n = base.n;
+    let r = base.r;
+    let s = order.s;
+    let k = order.k;
+    let b = order.b;
+    if s < 1 {
+        return Verdict::Refused(Refusal::BadOrder(0));
+    }
+    if r < s {
+        return Verdict::Refused(Refusal::BadOrder(0));
+    }
+    if k < s {
+        return Verdict::Refused(Refusal::BadOrder(1));
+    }
+    if n <= k {
+        return Verdict::Refused(Refusal::BadOrder(1));
+    }
+    if b < 1 {
+        return Verdict::Refused(Refusal::BadOrder(2));
+    }
+    if 4096 < b {
+        return Verdict::Refused(Refusal::BadOrder(2));
+    }
+    Verdict::Good
+}
+
+// Whether some layer below s has a block, or refusal 9.
+pub fn check_blocks(layers: [LayerHead; 5], s: usize) -> Verdict
     requires { ⌜ s ≤ 5 ⌝ }
-    ensures { λ some. ⌜ some ≡ any (λ x. ltb 0 (getD m x 0)) (upTo s) ⌝ }
+    ensures { λ answer. ⌜ answer ≡ verdict (checkBlocks layers s) ⌝ }
 {
     let mut x: usize = 0;
     while x < s {
-        if 0 < m[x] {
-            return true;
+        if 0 < layers[x].size {
+            return Verdict::Good;
         }
         x += 1;
     }
-    false
+    Verdict::Refused(Refusal::NoBlock)
 }
 
-// The order on a pack with these numbers, with slices of these lengths: good, or refusal 12, 9, 10 or 11.
-pub fn check_order(
-    n: usize,
-    r: usize,
-    m: [usize; 5],
-    s: usize,
-    k: usize,
-    b: usize,
-    work: usize,
-    output: usize,
-) -> OrderAnswer
-    requires { ⌜ r ≤ 5 ⌝ }
-    ensures { λ answer. ⌜ ((mu blocks : List ℕ)
-        → answer ≡ orderAnswer (checkSteps (arrayPack n r mu m blocks) s k b work output)) ⌝ }
+// Whether a working slice of `work` entries is long enough, or refusal 10.
+pub fn check_work(order: Order, work: usize) -> Verdict
+    requires { ⌜ (order .s ≤ 5) × (order .b ≤ 4_096) ⌝ }
+    ensures { λ answer. ⌜ answer ≡ verdict (checkWork order work) ⌝ }
 {
-    let limits = crate::limits::check_limits(n, r, s, k, b);
-    let OrderAnswer::Good = limits else {
-        return limits;
-    };
-    if !has_block(m, s) {
-        return OrderAnswer::Refused(Refusal::NoBlock);
+    let s = order.s;
+    let b = order.b;
+    let needed = s * (b + 1);
+    if work < needed {
+        return Verdict::Refused(Refusal::ShortWork(needed));
     }
-    let entries = s * (b + 1);
-    if work < entries {
-        return OrderAnswer::Refused(Refusal::ShortWork(entries));
+    Verdict::Good
+}
+
+// Whether an output of `output` bytes is long enough, or refusal 11.
+pub fn check_output(b: usize, r: usize, output: usize) -> Verdict
+    requires { ⌜ (b ≤ 4_096) × (r ≤ 5) ⌝ }
+    ensures { λ answer. ⌜ answer ≡ verdict (checkOutput b r output) ⌝ }
+{
+    let needed = 64 + b * r;
+    if output < needed {
+        return Verdict::Refused(Refusal::ShortOutput(needed));
     }
-    let bytes = 64 + b * r;
-    if output < bytes {
-        return OrderAnswer::Refused(Refusal::ShortOutput(bytes));
-    }
-    OrderAnswer::Good
+    Verdict::Good
 }

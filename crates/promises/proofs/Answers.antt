@@ -1,7 +1,7 @@
 -- Demand 1: every call "finishes with a result or a numbered refusal and its place, and after a refusal each lent buffer
 -- holds what it held before". A call's contract equates its answer with a value of the code's enum; here is what that value
 -- says, by the definition that "gives this paper's number and values for every case of that enum". Assumes nothing.
-use Prim.Native.Nat.{ℕ, _*_, _-_, _≤_}
+use Prim.Native.Nat.{ℕ, _≤_}
 use mathlib.Core.Path.{_≡_, refl}
 use mathlib.Core.List.{List, [], _∷_}
 use mathlib.Core.Option.{Option, none, some}
@@ -10,24 +10,23 @@ use lib.Dec.{lit≤}
 use Rattle.refusal.specs.declared.Refusal.{Refusal}
 use Rattle.refusal.specs.declared.Refusal.the-variants.{Ended, Malformed, WrongKind, OutsideLimits, Trailing, BadRow, Crowded, WrongFigure, NoBlock, ShortWork, ShortOutput, BadOrder}
 use Rattle.refusal.specs.Refusals.{result, numberOf}
-use Rattle.refusal.specs.Checked.{Checked, accepted, refused, _>>=_, outcome, written}
-use Rattle.number.specs.Numbers.{Reading}
+use Rattle.refusal.specs.Checked.{Checked, accepted, refused, _>>=_, outcome, written, verdict, verdictOutcome}
+use Rattle.number.specs.declared.Reading.{Reading}
 use Rattle.number.specs.Answers.{numberRead, readOutcome, numberWritten, writtenOutcome}
 use Rattle.packing.specs.Answers.{rowFound, rowOutcome}
-use Rattle.layers.specs.Layers.{LayerHeads, allRows}
-use Rattle.layers.specs.Answers.{LayerReading, layerRead, layerOutcome, layersRead, headsOutcome, rowsAnswer, rowsOutcome}
+use Rattle.layers.specs.Layers.{Located, BaseReading, LayerHeads}
+use Rattle.layers.specs.Answers.{baseRead, layersRead}
 use Rattle.pack.specs.Pack.{Pack}
-use Rattle.pack.specs.Answers.{packChecked, packOutcome}
-use Rattle.placement.specs.Placement.{Placement, placementBytes}
-use Rattle.placement.specs.Answers.{placementChecked, placementOutcome}
-use Rattle.planner.specs.Planning.{outputAfter, WorkAfter}
-use Rattle.planner.specs.Answers.{planAnswer, planOutcome}
-use Rattle.planner.specs.Steps.{orderAnswer, orderOutcome}
+use Rattle.pack.specs.Answers.{packChecked, packOutcome, packValues}
+use Rattle.placement.specs.Placement.{Placement, TermsReading}
+use Rattle.placement.specs.Answers.{termsRead, placementChecked, placementOutcome, placementValues}
+use Rattle.planner.specs.Answers.{planAnswer, planOutcome, planValues}
 use Rattle.walk.specs.declared.Cursor.{Cursor}
 use Rattle.walk.specs.RowWalk.{walkOpened, walkOutcome}
-use Rattle.report.specs.Programs.{Order, planInput}
+use Rattle.report.specs.declared.OrderReading.{OrderReading}
+use Rattle.report.specs.Programs.{planInput}
 use Rattle.report.specs.Replies.{planSlices, PlanWork}
-use Rattle.report.specs.Answers.{reply, replyOutcome, orderRead, orderOutcome as numbersOutcome}
+use Rattle.report.specs.Answers.{reply, replyOutcome, orderRead, orderOutcome}
 
 -- "a numbered refusal": 1 to 12
 pub demand-1-numbered : (e : Refusal) → (1 ≤ numberOf e) × (numberOf e ≤ 12)
@@ -48,11 +47,6 @@ demand-1-numbered (BadOrder p) = (lit≤ tt, lit≤ tt)
 pub demand-1-unchanged : (e : Refusal) (out : List ℕ) → written (refused e) out ≡ out
 demand-1-unchanged e out = refl
 
--- the planner's output and its working slice
-pub demand-1-plan-unchanged : (e : Refusal) (s b : ℕ) (out before after : List ℕ) → WorkAfter (refused e) s b before after
-    → (outputAfter (refused e) out ≡ out) × (after ≡ before)
-demand-1-plan-unchanged e s b out before after same = (refl, same)
-
 -- the working slice of the program `plan`, where its slices are refused, or its input
 pub demand-1-reply-unchanged : (input : List ℕ) (work output : ℕ) (e : Refusal) (before after : List ℕ)
     → (planSlices work output >>= (λ _. planInput input)) ≡ refused e → PlanWork input work output before after → after ≡ before
@@ -67,39 +61,35 @@ pub demand-1-write : (c : Checked (List ℕ)) → writtenOutcome (numberWritten 
 demand-1-write (accepted bytes) = refl
 demand-1-write (refused e) = refl
 
--- the checkers, and the parts that both have: one layer's numbers, those of all layers, the rows
-pub demand-1-layer : (c : Checked LayerReading)
-    → layerOutcome (layerRead c) ≡ outcome (λ layer. layer .head .bound ∷ layer .head .size ∷ layer .next ∷ []) c
-demand-1-layer (accepted layer) = refl
-demand-1-layer (refused e) = refl
+-- a check without a value of its own: the rows, the order, the slices
+pub demand-1-verdict : {A : Type 0} (c : Checked A) → verdictOutcome (verdict c) ≡ outcome (λ a. []) c
+demand-1-verdict (accepted a) = refl
+demand-1-verdict (refused e) = refl
 
-pub demand-1-layers : (c : Checked LayerHeads) → headsOutcome (layersRead c .answer) ≡ outcome (λ layers. layers .next ∷ []) c
+-- the parts that both checkers have: n and r, the layers' numbers, and a placement's s, k, b and F
+pub demand-1-base : (c : Checked BaseReading) → verdictOutcome (baseRead c .verdict) ≡ outcome (λ b. []) c
+demand-1-base (accepted b) = refl
+demand-1-base (refused e) = refl
+
+pub demand-1-layers : (c : Checked LayerHeads) → verdictOutcome (layersRead c .verdict) ≡ outcome (λ layers. []) c
 demand-1-layers (accepted layers) = refl
 demand-1-layers (refused e) = refl
 
-pub demand-1-rows : {A : Type 0} (c : Checked A) → rowsOutcome (rowsAnswer c) ≡ outcome (λ rows. []) c
-demand-1-rows (accepted rows) = refl
-demand-1-rows (refused e) = refl
+pub demand-1-terms : (c : Checked TermsReading) → verdictOutcome (termsRead c .verdict) ≡ outcome (λ order. []) c
+demand-1-terms (accepted order) = refl
+demand-1-terms (refused e) = refl
 
-pub demand-1-pack : (bytes : List ℕ) (c : Checked Pack)
-    → packOutcome (packChecked bytes c .answer)
-    ≡ outcome (λ p. p .n ∷ p .r ∷ (length bytes - length (allRows (p .layers)) * p .r) ∷ []) c
-demand-1-pack bytes (accepted p) = refl
-demand-1-pack bytes (refused e) = refl
+-- the checkers
+pub demand-1-pack : (c : Checked (Located Pack)) → packOutcome (packChecked c) ≡ outcome packValues c
+demand-1-pack (accepted file) = refl
+demand-1-pack (refused e) = refl
 
-pub demand-1-placement : (bytes : List ℕ) (c : Checked Placement)
-    → placementOutcome (placementChecked bytes c .answer)
-    ≡ outcome (λ p. p .n ∷ p .r ∷ p .s ∷ p .k ∷ p .b ∷ p .figure ∷ (length bytes - p .b * p .r) ∷ []) c
-demand-1-placement bytes (accepted p) = refl
-demand-1-placement bytes (refused e) = refl
+pub demand-1-placement : (c : Checked (Located Placement)) → placementOutcome (placementChecked c) ≡ outcome placementValues c
+demand-1-placement (accepted file) = refl
+demand-1-placement (refused e) = refl
 
--- the planner, and its checks of the order
-pub demand-1-order : (c : Checked Unit) → orderOutcome (orderAnswer c) ≡ outcome (λ u. []) c
-demand-1-order (accepted u) = refl
-demand-1-order (refused e) = refl
-
-pub demand-1-plan : (c : Checked Placement)
-    → planOutcome (planAnswer c .answer) ≡ outcome (λ p. length (placementBytes p) ∷ p .figure ∷ []) c
+-- the planner: "The answer is the length, F and the counts."
+pub demand-1-plan : (c : Checked Placement) → planOutcome (planAnswer c) ≡ outcome planValues c
 demand-1-plan (accepted p) = refl
 demand-1-plan (refused e) = refl
 
@@ -113,8 +103,9 @@ pub demand-1-reply : (c : Checked (List ℕ)) → replyOutcome (reply c) ≡ out
 demand-1-reply (accepted bytes) = refl
 demand-1-reply (refused e) = refl
 
-pub demand-1-numbers : (c : Checked Order) → numbersOutcome (orderRead c) ≡ outcome (λ o. o .s ∷ o .k ∷ o .b ∷ o .at ∷ []) c
-demand-1-numbers (accepted o) = refl
+pub demand-1-numbers : (c : Checked OrderReading)
+    → orderOutcome (orderRead c) ≡ outcome (λ read. read .order .s ∷ read .order .k ∷ read .order .b ∷ read .at ∷ []) c
+demand-1-numbers (accepted read) = refl
 demand-1-numbers (refused e) = refl
 
 -- the row tests refuse nothing themselves: they name a row, or none

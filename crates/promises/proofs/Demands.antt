@@ -1,105 +1,147 @@
--- The user's demands 2 and 3 as theorems about the definitions, in the user's order and words. `Bytes` says of a list that
--- its elements are bytes, as every lent slice's are. Assumes nothing.
+-- The user's demand 2 and demand 3's first sentence as theorems, in the user's words, about what the calls answer. `Bytes`
+-- says of a list that its elements are bytes, as every lent slice's are. Assumes nothing.
 use Prim.Native.Nat.{ℕ, _≤_, _<_}
-use native.Mathlib.Nat.{le-trans}
-use mathlib.Core.Path.{_≡_, refl, ap}
+use native.Mathlib.Omega.{arith}
+use mathlib.Core.Path.{_≡_, refl, sym, _∙_, ap}
 use mathlib.Core.Logic.{_↔_}
 use mathlib.Core.Bool.{Bool}
-use mathlib.Core.List.{List, map}
-use lib.ListN.{length}
-use lib.Dec.{T}
-use Rattle.refusal.specs.Checked.{accepted}
+use mathlib.Core.List.{List, _∷_}
+use lib.ListN.{length, length-drop}
+use Rattle.refusal.specs.Refusals.{result, refusal}
+use Rattle.refusal.specs.Checked.{Checked, accepted, refused}
 use Rattle.number.specs.Numbers.{Bytes}
-use Rattle.packing.specs.Failures.{Failure, usable}
-use Rattle.layers.specs.Layers.{allRows, headsOf, size, five}
-use Rattle.pack.specs.Pack.{Pack, PackFile, GoodPack, checkPack}
-use Rattle.pack.proofs.Accepted.{pack-accepted-iff}
-use Rattle.placement.specs.Placement.{Placement, PlacementFile, GoodPlacement, checkPlacement, placementBytes}
-use Rattle.placement.proofs.Accepted.{placement-accepted-iff}
+use Rattle.packing.specs.Rows.{member, recordsIn}
+use Rattle.packing.specs.Failures.{Failure, FailedNodes, usable}
+use Rattle.packing.proofs.Failed.{failure-of-nodes, rowsAt-records}
+use Rattle.layers.specs.Layers.{Layer, Located, Stands, headsOf}
+use Rattle.layers.proofs.Files.{file-read, read-file}
+use Rattle.pack.specs.Pack.{Pack, PackFile, GoodPack, packNumbers, readPack}
+use Rattle.pack.specs.Answers.{packChecked, packOutcome, packValues}
+use Rattle.pack.proofs.Accepted.{read-of-pack, pack-accepted}
+use Rattle.placement.specs.Placement.{Placement, PlacementFile, GoodPlacement, placementNumbers, placementBytes, readPlacement}
+use Rattle.placement.specs.Answers.{placementChecked, placementOutcome, placementValues}
+use Rattle.placement.proofs.Accepted.{read-of-placement, placement-accepted}
+use Rattle.placement.proofs.Rows.{rows-in}
 use Rattle.placement.proofs.Survivors.{survivors}
-use Rattle.split.specs.Splits.{Share, Split, Named, splitFigure, hasBlock, namedSplit}
-use Rattle.split.proofs.Named.{named, named-highest, named-unique}
-use Rattle.planner.specs.Planning.{OrderLimits, plan, splitPlacement, namedPlacement, workNeeded, outputNeeded}
-use Rattle.planner.specs.Answers.{planAnswer}
-use Rattle.planner.specs.declared.PlanAnswer.the-variants.{Planned}
-use Rattle.planner.proofs.Planned.{plan-never-refuses, plan-accepted, plan-fits, plan-survives}
+use Rattle.split.specs.Splits.{Share, Named}
+use Rattle.split.proofs.Named.{named-unique}
+use Rattle.planner.specs.Planning.{splitPlacement}
+use Rattle.planner.proofs.Placed.{splitPlacement-congr}
+
+-- a result is no refusal
+not-both : {values : List ℕ} {number place : ℕ} → refusal number place ≡ result values → ⊥
+not-both e = let z : _≡_ {A = ℕ} 0 1 = cc in omega arith
+
+-- rows stand from one place to the end
+one-place : (s : List ℕ) (a b : ℕ) (layers : List Layer) → Stands s a layers → Stands s b layers → a ≡ b
+one-place s a b layers (ha, da) (hb, db) =
+    let e = ap length (da ∙ sym db) in
+    omega (arith, length-drop a s, length-drop b s)
 
 -- Demand 2: "A pack .. is accepted exactly when it has document 01's layout, in every layer x no x+1 nodes stand together
--- in more rows than that layer allows". `PackFile` is the layout, `GoodPack` the limits, the rows and the packings.
-pub demand-2-pack : (bytes : List ℕ) (p : Pack) → Bytes bytes
-    → (checkPack bytes ≡ accepted p) ↔ (PackFile p bytes × GoodPack p)
-demand-2-pack = pack-accepted-iff
+-- in more rows than that layer allows". `PackFile` is the layout, `GoodPack` the limits, the rows and the packings. The answer
+-- has the pack's n and r, the place where its blocks stand, and mu and m of each layer.
+pub demand-2-pack : (bytes values : List ℕ) → Bytes bytes
+    → (packOutcome (packChecked (readPack bytes)) ≡ result values)
+    ↔ ((file : Located Pack) × (values ≡ packValues file) × PackFile (file .content) bytes
+    × Stands bytes (file .first) (file .content .layers)
+    × GoodPack (file .content))
+demand-2-pack bytes values h = (λ e. to (readPack bytes) refl e, from)
+  where
+    to : (c : Checked (Located Pack)) → readPack bytes ≡ c → packOutcome (packChecked c) ≡ result values
+        → (file : Located Pack) × (values ≡ packValues file) × PackFile (file .content) bytes
+        × Stands bytes (file .first) (file .content .layers)
+        × GoodPack (file .content)
+    to (accepted file) r e =
+        let p = file .content in
+        let (f, good) = read-of-pack bytes p (file .first) r in
+        let same : packValues file ≡ values = cc in
+        (file, sym same, read-file (packNumbers p) (p .layers) bytes (file .first) h f, (f .inside, f .rest), good)
+    to (refused why) r e = absurd (not-both e)
 
--- The same of a placement, "and a placement's figure is the one 01's formula gives": the last field of `GoodPlacement`.
-pub demand-2-placement : (bytes : List ℕ) (p : Placement) → Bytes bytes
-    → (checkPlacement bytes ≡ accepted p) ↔ (PlacementFile p bytes × GoodPlacement p)
-demand-2-placement = placement-accepted-iff
+    from : ((file : Located Pack) × (values ≡ packValues file) × PackFile (file .content) bytes
+        × Stands bytes (file .first) (file .content .layers)
+        × GoodPack (file .content))
+        → packOutcome (packChecked (readPack bytes)) ≡ result values
+    from (file, same, is-file, stands, good) =
+        let p = file .content in
+        let (first, f) = file-read (packNumbers p) (p .layers) bytes is-file in
+        let place = one-place bytes first (file .first) (p .layers) (f .inside, f .rest) stands in
+        rw (pack-accepted bytes p first f good, place, same)
 
--- "the planner writes the one placement that 01 names": no two splits are named.
+-- The same of a placement, "and a placement's figure is the one 01's formula gives": the last field of `GoodPlacement`. The
+-- answer has the placement's n, r, s, k, b and F, the place where its rows stand, and lambda and c of each layer.
+pub demand-2-placement : (bytes values : List ℕ) → Bytes bytes
+    → (placementOutcome (placementChecked (readPlacement bytes)) ≡ result values)
+    ↔ ((file : Located Placement) × (values ≡ placementValues file) × PlacementFile (file .content) bytes
+    × Stands bytes (file .first) (file .content .layers)
+    × GoodPlacement (file .content))
+demand-2-placement bytes values h = (λ e. to (readPlacement bytes) refl e, from)
+  where
+    to : (c : Checked (Located Placement)) → readPlacement bytes ≡ c → placementOutcome (placementChecked c) ≡ result values
+        → (file : Located Placement) × (values ≡ placementValues file) × PlacementFile (file .content) bytes
+        × Stands bytes (file .first) (file .content .layers)
+        × GoodPlacement (file .content)
+    to (accepted file) r e =
+        let p = file .content in
+        let (f, good) = read-of-placement bytes p (file .first) r in
+        let same : placementValues file ≡ values = cc in
+        (file, sym same, read-file (placementNumbers p) (p .layers) bytes (file .first) h f, (f .inside, f .rest), good)
+    to (refused why) r e = absurd (not-both e)
+
+    from : ((file : Located Placement) × (values ≡ placementValues file) × PlacementFile (file .content) bytes
+        × Stands bytes (file .first) (file .content .layers)
+        × GoodPlacement (file .content))
+        → placementOutcome (placementChecked (readPlacement bytes)) ≡ result values
+    from (file, same, is-file, stands, good) =
+        let p = file .content in
+        let (first, f) = file-read (placementNumbers p) (p .layers) bytes is-file in
+        let place = one-place bytes first (file .first) (p .layers) (f .inside, f .rest) stands in
+        rw (placement-accepted bytes p first f good, place, same)
+
+-- "the planner writes the one placement that 01 names": two splits that are named are one, and so are their placements and
+-- the bytes of these.
 pub demand-2-one-named : (pack : Pack) (s k b : ℕ) (split other : ℕ → Share)
     → Named (headsOf (pack .layers)) s k b split → Named (headsOf (pack .layers)) s k b other
-    → (x : ℕ) → x < s → split x ≡ other x
-demand-2-one-named pack s k b split other = named-unique (headsOf (pack .layers)) s k b split other
+    → ((x : ℕ) → x < s → split x ≡ other x)
+    × (splitPlacement pack s k b split ≡ splitPlacement pack s k b other)
+    × (placementBytes (splitPlacement pack s k b split) ≡ placementBytes (splitPlacement pack s k b other))
+demand-2-one-named pack s k b split other a c =
+    let shares = named-unique (headsOf (pack .layers)) s k b split other a c in
+    let same = splitPlacement-congr pack s k b split other shares in
+    (shares, same, ap placementBytes same)
 
 -- Demand 3: "The survivor figure F of every accepted placement holds whichever k of its n nodes fail: at least F of its b
--- records have fewer than s replicas among the failed."
-pub demand-3-survivors : (bytes : List ℕ) (p : Placement) → Bytes bytes → checkPlacement bytes ≡ accepted p
-    → (failed : ℕ → Bool) → Failure (p .n) (p .k) failed
-    → p .figure ≤ usable (p .s) (allRows (p .layers)) failed
-demand-3-survivors bytes p h e = survivors p (placement-accepted-iff bytes p h .0 e .1)
+-- records have fewer than s replicas among the failed." Which nodes fail is a test that just k of the n nodes pass; record j is
+-- the r bytes at the first row's place plus j × r.
+pub demand-3-survivors : (bytes : List ℕ) {n r s k b figure first : ℕ} {layers : List ℕ}
+    → placementOutcome (placementChecked (readPlacement bytes)) ≡ result (n ∷ r ∷ s ∷ k ∷ b ∷ figure ∷ first ∷ layers)
+    → (failed : ℕ → Bool) → Failure n k failed
+    → figure ≤ usable s (recordsIn bytes first r b) failed
+demand-3-survivors bytes {n} {r} {s} {k} {b} {figure} {first} {layers} e failed f = go (readPlacement bytes) refl e
+  where
+    go : (c : Checked (Located Placement)) → readPlacement bytes ≡ c
+        → placementOutcome (placementChecked c) ≡ result (n ∷ r ∷ s ∷ k ∷ b ∷ figure ∷ first ∷ layers)
+        → figure ≤ usable s (recordsIn bytes first r b) failed
+    go (accepted file) q p =
+        let place = file .content in
+        let rows = rows-in bytes file q in
+        let n-is : place .n ≡ n = cc in
+        let r-is : place .r ≡ r = cc in
+        let s-is : place .s ≡ s = cc in
+        let k-is : place .k ≡ k = cc in
+        let b-is : place .b ≡ b = cc in
+        let figure-is : place .figure ≡ figure = cc in
+        let first-is : file .first ≡ first = cc in
+        let holds = survivors place (rows .good) failed (rw (n-is, k-is) f) in
+        let records = sym (rowsAt-records bytes (file .first) (place .r) (place .b)) ∙ rows .rows in
+        rw (figure-is, s-is, ← records, first-is, r-is, b-is) at holds
+    go (refused why) q p = absurd (not-both p)
 
--- What demand 3 promises of the planner's answer for a pack and an order.
-pub record Kept (bytes : List ℕ) (pack : Pack) (s k b work output : ℕ) : Type 0 where
-  pub split : ℕ → Share
-  pub placement : Placement
-  -- "the planner doesn't refuse"
-  pub planned : plan bytes s k b work output ≡ accepted placement
-  -- "The bytes it has written .. are the placement of the pack's blocks that document 01 names"
-  pub named : Named (headsOf (pack .layers)) s k b split
-  pub of-named : placement ≡ splitPlacement pack s k b split
-  -- "up to the length in its answer", which is at most the output's
-  pub fits : length (placementBytes placement) ≤ output
-  -- "and the checker accepts it"
-  pub checked : checkPlacement (placementBytes placement) ≡ accepted placement
-  -- "That placement has the pack's n and r, the given s, k and b"
-  pub numbers : (placement .n ≡ pack .n)
-      × (placement .r ≡ pack .r)
-      × (placement .s ≡ s)
-      × (placement .k ≡ k)
-      × (placement .b ≡ b)
-  -- "and the F and counts of the answer"
-  pub answer : planAnswer (plan bytes s k b work output)
-      ≡ record {
-        answer = Planned (length (placementBytes placement)) (placement .figure);
-        counts = five (map size (placement .layers));
-      }
-  -- "so this F too holds whichever k nodes fail"
-  pub survives : (failed : ℕ → Bool) → Failure (pack .n) k failed
-      → placement .figure ≤ usable s (allRows (placement .layers)) failed
-  -- "Every other split of the b records over the layers .. has a figure of at most F."
-  pub best : (other : ℕ → Share) → Split (headsOf (pack .layers)) s b other
-      → splitFigure (headsOf (pack .layers)) s k b other ≤ placement .figure
-
--- Demand 3: "For every accepted pack, every s, k and b within limits with a block in some layer below s, and all buffers at
--- least as long as stated, whatever they hold": `plan` is given their lengths alone.
-pub demand-3-planner : (bytes : List ℕ) (pack : Pack) → Bytes bytes → checkPack bytes ≡ accepted pack
-    → (s k b : ℕ) → OrderLimits pack s k b → T (hasBlock (headsOf (pack .layers)) s)
-    → (work output : ℕ) → workNeeded s b ≤ work → outputNeeded b (pack .r) ≤ output
-    → Kept bytes pack s k b work output
-unfolding namedPlacement splitPlacement
-demand-3-planner bytes pack h e s k b order block work output hw ho =
-    let good = pack-accepted-iff bytes pack h .0 e .1 in
-    let is-planned = plan-never-refuses bytes pack e s k b order block work output hw ho in
-    record {
-      split = namedSplit (headsOf (pack .layers)) s k b;
-      placement = namedPlacement pack s k b;
-      planned = is-planned;
-      named = named (headsOf (pack .layers)) s k b (order .b-most) block;
-      of-named = refl;
-      fits = le-trans (plan-fits bytes pack e s k b order block good) ho;
-      checked = plan-accepted bytes pack e s k b order block good;
-      numbers = (refl, refl, refl, refl, refl);
-      answer = ap planAnswer is-planned;
-      survives = plan-survives bytes pack e s k b order block good;
-      best = named-highest (headsOf (pack .layers)) s k b (order .b-most) block;
-    }
+-- The same for failed nodes as a list: k different nodes below n.
+pub demand-3-whichever : (bytes : List ℕ) {n r s k b figure first : ℕ} {layers : List ℕ}
+    → placementOutcome (placementChecked (readPlacement bytes)) ≡ result (n ∷ r ∷ s ∷ k ∷ b ∷ figure ∷ first ∷ layers)
+    → (failed : List ℕ) → FailedNodes n k failed
+    → figure ≤ usable s (recordsIn bytes first r b) (λ v. member v failed)
+demand-3-whichever bytes {n} {k = k} e failed f =
+    demand-3-survivors bytes e (λ v. member v failed) (failure-of-nodes n k failed f)

@@ -1,3 +1,6 @@
-pub mod Answers
 pub mod Demands
+pub mod Planned
+pub mod Programs
+pub mod Answers
+pub mod Refusals
 pub mod Starred

@@ -3,7 +3,7 @@
 use mathlib.Core.Path.{_≡_, ap}
 use mathlib.Core.List.{[], _∷_, _++_}
 use lib.ListN.{length}
-use Rattle.refusal.specs.Refusals.{refusal}
+use Rattle.refusal.specs.Refusals.{result, refusal}
 use Rattle.refusal.specs.Checked.{accepted}
 use Rattle.binomial.specs.Choose.{choose}
 use Rattle.binomial.proofs.Worked.{binomials}
@@ -11,14 +11,17 @@ use Rattle.number.specs.Numbers.{numberBytes, readNumber}
 use Rattle.number.specs.Answers.{numberRead, readOutcome}
 use Rattle.number.proofs.Worked.{numbers}
 use Rattle.packing.specs.SevenCabinets.{row245}
-use Rattle.pack.specs.Pack.{checkPack}
+use Rattle.pack.specs.Pack.{readPack}
 use Rattle.pack.specs.Answers.{packChecked, packOutcome}
-use Rattle.pack.specs.SevenCabinets.{packBytes, sevenPack}
+use Rattle.pack.specs.SevenCabinets.{packBytes}
 use Rattle.pack.proofs.Worked.{packs}
-use Rattle.placement.specs.Placement.{checkPlacement, placementBytes}
+use Rattle.placement.specs.Placement.{readPlacement, placementBytes}
+use Rattle.placement.specs.Answers.{placementChecked, placementOutcome}
 use Rattle.placement.specs.SevenCabinets.{placementFile, sevenPlacement}
 use Rattle.placement.proofs.Worked.{placements}
-use Rattle.planner.proofs.Worked.{orderOf, figureIn, countsIn, orders}
+use Rattle.planner.specs.Answers.{planAnswer, planOutcome}
+use Rattle.planner.specs.SevenCabinets.{planP}
+use Rattle.planner.proofs.Worked.{orders}
 use Rattle.report.specs.Programs.{acceptedWord, checkLine}
 use Rattle.report.proofs.Worked.{lines}
 
@@ -34,25 +37,26 @@ pub starred :
     × (numberBytes 300 ≡ 172 ∷ 2 ∷ [])
     × (readOutcome (numberRead (readNumber (128 ∷ 0 ∷ []) 0)) ≡ refusal 2 0)
     -- P's layer 1 with its last row 246: refusal 7, place 27
-    × (packOutcome (packChecked (packBytes (2 ∷ 4 ∷ 6 ∷ [])) (checkPack (packBytes (2 ∷ 4 ∷ 6 ∷ []))) .answer) ≡ refusal 7 27)
-    -- with P: s 2, k 2, b 7: F 6. s 2, k 3, b 7: F 4. s 2, k 3, b 9: F 5, counts 2 and 7. s 2, k 2, b 9: F 7, counts 0 and 9.
-    -- s 3, k 4, b 7: F 5. s 2, k 2, b 1: F 0
-    × (figureIn (orderOf 2 2 7) ≡ accepted 6)
-    × (figureIn (orderOf 2 3 7) ≡ accepted 4)
-    × (figureIn (orderOf 2 3 9) ≡ accepted 5)
-    × (countsIn (orderOf 2 3 9) ≡ accepted (2 ∷ 7 ∷ []))
-    × (figureIn (orderOf 2 2 9) ≡ accepted 7)
-    × (countsIn (orderOf 2 2 9) ≡ accepted (0 ∷ 9 ∷ []))
-    × (figureIn (orderOf 3 4 7) ≡ accepted 5)
-    × (figureIn (orderOf 2 2 1) ≡ accepted 0)
-    -- P's 36 bytes are accepted
+    × (packOutcome (packChecked (readPack (packBytes (2 ∷ 4 ∷ 6 ∷ [])))) ≡ refusal 7 27)
+    -- with P, the length, F and the counts: s 2, k 2, b 7: F 6. s 2, k 3, b 7: F 4. s 2, k 3, b 9: F 5, counts 2 and 7.
+    -- s 2, k 2, b 9: F 7, counts 0 and 9. s 3, k 4, b 7: F 5. s 2, k 2, b 1: F 0
+    × (planOutcome (planAnswer (planP 2 2 7)) ≡ result (32 ∷ 6 ∷ 0 ∷ 7 ∷ 0 ∷ 0 ∷ 0 ∷ []))
+    × (planOutcome (planAnswer (planP 2 3 7)) ≡ result (32 ∷ 4 ∷ 0 ∷ 7 ∷ 0 ∷ 0 ∷ 0 ∷ []))
+    × (planOutcome (planAnswer (planP 2 3 9)) ≡ result (38 ∷ 5 ∷ 2 ∷ 7 ∷ 0 ∷ 0 ∷ 0 ∷ []))
+    × (planOutcome (planAnswer (planP 2 2 9)) ≡ result (38 ∷ 7 ∷ 0 ∷ 9 ∷ 0 ∷ 0 ∷ 0 ∷ []))
+    × (planOutcome (planAnswer (planP 3 4 7)) ≡ result (34 ∷ 5 ∷ 0 ∷ 7 ∷ 0 ∷ 0 ∷ 0 ∷ []))
+    × (planOutcome (planAnswer (planP 2 2 1)) ≡ result (14 ∷ 0 ∷ 0 ∷ 1 ∷ 0 ∷ 0 ∷ 0 ∷ []))
+    -- P's 36 bytes are accepted: n, r, the first block's place, then mu and m of each layer
     × (length (packBytes row245) ≡ 36)
-    × (checkPack (packBytes row245) ≡ accepted sevenPack)
-    -- order s = 2, k = 3, b = 9 gives the whole file: 38 bytes. `check` prints `accepted 5 9 3 7 4 4`
-    × (orderOf 2 3 9 ≡ accepted sevenPlacement)
+    × (packOutcome (packChecked (readPack (packBytes row245)))
+    ≡ result (7 ∷ 3 ∷ 9 ∷ 1 ∷ 2 ∷ 1 ∷ 7 ∷ 1 ∷ 0 ∷ 0 ∷ 0 ∷ 0 ∷ 0 ∷ []))
+    -- order s = 2, k = 3, b = 9 gives the whole file: 38 bytes, which are accepted: n, r, s, k, b, F, the first row's place,
+    -- then lambda and c of each layer. `check` prints `accepted 5 9 3 7 4 4`
+    × (planP 2 3 9 ≡ accepted sevenPlacement)
     × (placementBytes sevenPlacement ≡ placementFile 5)
     × (length (placementFile 5) ≡ 38)
-    × (checkPlacement (placementFile 5) ≡ accepted sevenPlacement)
+    × (placementOutcome (placementChecked (readPlacement (placementFile 5)))
+    ≡ result (7 ∷ 3 ∷ 2 ∷ 3 ∷ 9 ∷ 5 ∷ 11 ∷ 1 ∷ 2 ∷ 1 ∷ 7 ∷ 0 ∷ 0 ∷ 0 ∷ 0 ∷ 0 ∷ 0 ∷ []))
     × (checkLine (placementFile 5)
     ≡ acceptedWord ++ (32 ∷ 53 ∷ 32 ∷ 57 ∷ 32 ∷ 51 ∷ 32 ∷ 55 ∷ 32 ∷ 52 ∷ 32 ∷ 52 ∷ 10 ∷ []))
 starred = (
@@ -64,20 +68,18 @@ starred = (
   numbers .2,
   numbers .3,
   ap (λ a. readOutcome (numberRead a)) (numbers .4),
-  ap (λ a. packOutcome (packChecked (packBytes (2 ∷ 4 ∷ 6 ∷ [])) a .answer)) (packs .2),
+  packs .3,
   orders .0,
   orders .1,
   orders .2,
   orders .3,
   orders .4,
   orders .5,
+  packs .0,
+  packs .2,
   orders .6,
   orders .7,
-  packs .0,
-  packs .1,
-  orders .8,
-  orders .9,
   placements .0,
-  placements .1,
+  placements .2,
   lines .0,
 )

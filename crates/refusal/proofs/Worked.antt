@@ -1,11 +1,11 @@
 -- The table of refusals read off once more, and cases of what a check says and leaves. Assumes nothing.
 use Prim.Native.Nat.{ℕ}
 use mathlib.Core.Path.{_≡_, refl}
-use mathlib.Core.Bool.{true, false}
-use mathlib.Core.List.{List, [], _∷_}
+use mathlib.Core.Bool.{false}
+use mathlib.Core.List.{[], _∷_}
 use Rattle.refusal.specs.declared.Refusal.the-variants.{Ended, Malformed, WrongKind, OutsideLimits, Trailing, BadRow, Crowded, WrongFigure, NoBlock, ShortWork, ShortOutput, BadOrder}
-use Rattle.refusal.specs.Refusals.{Outcome, result, refusal, refusalOutcome}
-use Rattle.refusal.specs.Checked.{Checked, accepted, refused, _>>=_, require, written, outcome}
+use Rattle.refusal.specs.Refusals.{result, refusal, refusalOutcome}
+use Rattle.refusal.specs.Checked.{accepted, refused, _>>=_, require, written, outcome}
 
 -- "returned" and "place", row by row
 pub table : (refusalOutcome (Ended 9) ≡ refusal 1 9)

@@ -1,9 +1,11 @@
 -- A result or a refusal, and the order of checks: the first refusal met is the answer. Assumes nothing.
 use Prim.Native.Nat.{ℕ}
 use mathlib.Core.Bool.{Bool, true, false}
-use mathlib.Core.List.{List, _++_}
-use lib.ListN.{length, drop}
+use mathlib.Core.List.{List, []}
+use Rattle.lists.specs.Lists.{overStart}
 use Rattle.refusal.specs.declared.Refusal.{Refusal}
+use Rattle.refusal.specs.declared.Verdict.{Verdict}
+use Rattle.refusal.specs.declared.Verdict.the-variants.{Good, Refused}
 use Rattle.refusal.specs.Refusals.{Outcome, result, refusalOutcome}
 
 -- Demand 1: "finishes with a result or a numbered refusal and its place".
@@ -30,10 +32,20 @@ mapAccepted f (refused e) = refused e
 -- A lent slice after a call that writes at its start: "bytes or entries past the written length don't change"; "A refusal
 -- leaves every lent slice unchanged."
 abbrev pub written : Checked (List ℕ) → List ℕ → List ℕ
-written (accepted bytes) out = bytes ++ drop (length bytes) out
+written (accepted bytes) out = overStart bytes out
 written (refused e) out = out
 
 -- what a check says in document 01's terms: the values of what is accepted, or the refusal's number and place
 abbrev pub outcome : {A : Type 0} → (A → List ℕ) → Checked A → Outcome
 outcome values (accepted a) = result (values a)
 outcome values (refused e) = refusalOutcome e
+
+-- what a check says, as a value of the code's enum
+abbrev pub verdict : {A : Type 0} → Checked A → Verdict
+verdict (accepted a) = Good
+verdict (refused e) = Refused e
+
+-- a good one has no value of its own
+abbrev pub verdictOutcome : Verdict → Outcome
+verdictOutcome Good = result []
+verdictOutcome (Refused e) = refusalOutcome e

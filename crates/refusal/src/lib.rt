@@ -26,3 +26,9 @@ pub enum Refusal {
     // s, k or b outside limits: 0, 1 or 2.
     BadOrder(usize),
 }
+
+// What a check says: all is good, or the refusal.
+pub enum Verdict {
+    Good,
+    Refused(Refusal),
+}

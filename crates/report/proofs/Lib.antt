@@ -3,3 +3,4 @@ pub mod Orders
 pub mod Prefix
 pub mod Load
 pub mod Replies
+pub mod Slices

@@ -6,13 +6,12 @@ use lib.ListN.{length}
 use lib.Dec.{T, ltb, eqb, ltb→lt}
 use Rattle.lists.specs.Lists.{All, count, every, total, upTo}
 use Rattle.lists.proofs.Tests.{and-right}
-use Rattle.lists.proofs.Alls.{all-imp, all-flatten, every-all}
+use Rattle.lists.proofs.Alls.{all-imp, all-flatten, every-all, length-flatten}
 use Rattle.lists.proofs.UpTo.{map-upTo-congr}
 use Rattle.lists.proofs.Totals.{total-count-eqb}
 use Rattle.packing.specs.Rows.{ascending, inOrder, Row}
 use Rattle.packing.specs.Load.{load}
 use Rattle.packing.proofs.Load.{count-of-rows}
-use Rattle.layers.proofs.Lengths.{length-flatten-rows}
 
 row-below : (n r : ℕ) (row : List ℕ) → Row n r row → All (λ v. v < n) row
 row-below n r row h =
@@ -26,4 +25,4 @@ total-load n r rows h =
     let lengths = all-imp (Row n r) (λ row. length row ≡ r) (λ row g. g .0) rows h in
     let below = all-flatten (λ v. v < n) rows (all-imp (Row n r) (All (λ v. v < n)) (row-below n r) rows h) in
     let counted = map-upTo-congr (λ v. count (eqb v) (flatten rows)) (load rows) n (λ v lt. count-of-rows n v rows ordered) in
-    ap total (sym counted) ∙ total-count-eqb n (flatten rows) below ∙ length-flatten-rows r rows lengths
+    ap total (sym counted) ∙ total-count-eqb n (flatten rows) below ∙ length-flatten r rows lengths

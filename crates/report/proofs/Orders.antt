@@ -6,9 +6,11 @@ use mathlib.Core.List.{List}
 use lib.ListN.{length, take}
 use Rattle.refusal.specs.Checked.{Checked, accepted, refused}
 use Rattle.refusal.proofs.Checked.{accepted-injective, bind-congr, bind-elim, refused-not-accepted}
-use Rattle.number.specs.Numbers.{Reading, readNumber}
-use Rattle.number.proofs.Reading.{read-next, read-local}
-use Rattle.report.specs.Programs.{Order, orderNumber, readOrder}
+use Rattle.number.specs.Numbers.{readNumber}
+use Rattle.number.specs.declared.Reading.{Reading}
+use Rattle.number.proofs.Laws.{read-next, read-local}
+use Rattle.report.specs.declared.OrderReading.{OrderReading}
+use Rattle.report.specs.Programs.{orderNumber, readOrder}
 
 -- a number that was read ends four bytes on at most, and within the input
 number-next : (index : ℕ) (input : List ℕ) (at : ℕ) {n : Reading} → orderNumber index (readNumber input at) ≡ accepted n
@@ -19,14 +21,14 @@ number-next index input at e = let next = read-next input at (read (readNumber i
     read (accepted m) e = e
     read (refused why) e = absurd (refused-not-accepted e)
 
-pub order-place : (input : List ℕ) {order : Order} → readOrder input ≡ accepted order
-    → (order .at ≤ 12) × (order .at ≤ length input)
+pub order-place : (input : List ℕ) {read : OrderReading} → readOrder input ≡ accepted read
+    → (read .at ≤ 12) × (read .at ≤ length input)
 unfolding readOrder
-order-place input {order} e =
+order-place input {read} e =
     bind-elim _ _ e λ s e₁ r₁.
     bind-elim _ _ r₁ λ k e₂ r₂.
     bind-elim _ _ r₂ λ b e₃ r₃.
-    let at-is : b .next ≡ order .at = ap (λ o. o .at) (accepted-injective r₃) in
+    let at-is : b .next ≡ read .at = ap (λ read. read .at) (accepted-injective r₃) in
     let at₁ = number-next 0 input 0 e₁ in
     let at₂ = number-next 1 input (s .next) e₂ in
     let at₃ = number-next 2 input (k .next) e₃ in

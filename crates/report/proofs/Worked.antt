@@ -9,22 +9,20 @@ use Rattle.number.specs.Numbers.{readGroups, readNumber}
 use Rattle.packing.specs.Rows.{member}
 use Rattle.packing.specs.SevenCabinets.{row245}
 use Rattle.pack.specs.SevenCabinets.{packBytes}
-use Rattle.placement.specs.Placement.{placementBytes}
 use Rattle.placement.specs.SevenCabinets.{placementFile, sevenPlacement}
 use Rattle.placement.proofs.Worked.{placements}
-use Rattle.planner.specs.Planning.{planned}
 use Rattle.planner.proofs.Worked.{orders}
 use Rattle.report.specs.Load.{mean}
-use Rattle.report.specs.Programs.{digits, decimal, rest, acceptedWord, acceptedLine, orRefusedLine, checkLine, readOrder, planInput, planReply}
+use Rattle.report.specs.Programs.{digits, decimal, rest, acceptedWord, acceptedLine, summary, orRefusedLine, checkLine, readOrder, planInput, plannedReply, planReply}
 use Rattle.report.specs.Replies.{planSlices, checkInto, planInto}
 
 -- "`check` prints `accepted 5 9 3 7 4 4`"; `plan` with the numbers 2 3 9 and then P writes the whole file
 pub lines : (checkLine (placementFile 5) ≡ acceptedWord ++ (32 ∷ 53 ∷ 32 ∷ 57 ∷ 32 ∷ 51 ∷ 32 ∷ 55 ∷ 32 ∷ 52 ∷ 32 ∷ 52 ∷ 10 ∷ []))
     × (planReply (2 ∷ 3 ∷ 9 ∷ packBytes row245) ≡ placementFile 5)
-unfolding count largest upTo flatten member readGroups readNumber packBytes sevenPlacement planned mean digits decimal rest acceptedLine checkLine readOrder planInput planReply
+unfolding count largest upTo flatten member readGroups readNumber packBytes sevenPlacement mean digits decimal rest summary checkLine readOrder planInput plannedReply planReply
 lines = (
-  ap (λ a. orRefusedLine (mapAccepted acceptedLine a)) (placements .1),
-  ap (λ a. orRefusedLine (mapAccepted placementBytes a)) (orders .8) ∙ orders .9,
+  ap (λ a. orRefusedLine (mapAccepted (λ p. acceptedLine (summary p)) a)) (placements .1),
+  ap plannedReply (orders .6) ∙ orders .7,
 )
 
 -- a slice one byte or entry short is refused with what is needed, 10 before 11, and one of that length is taken

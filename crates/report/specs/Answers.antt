@@ -1,12 +1,13 @@
 -- The answers of the replies as values of the code's enums, and what each case says. Assumes nothing.
 use Prim.Native.Nat.{ℕ}
+use mathlib.Core.Path.{_≡_}
 use mathlib.Core.List.{List, [], _∷_}
 use lib.ListN.{length}
 use Rattle.refusal.specs.Refusals.{Outcome, result, refusalOutcome}
-use Rattle.refusal.specs.Checked.{Checked, accepted, refused}
-use Rattle.report.specs.Programs.{Order}
+use Rattle.refusal.specs.Checked.{Checked, accepted, refused, written}
 use Rattle.report.specs.declared.Reply.{Reply}
 use Rattle.report.specs.declared.Reply.the-variants.{Written, Refused}
+use Rattle.report.specs.declared.OrderReading.{OrderReading}
 use Rattle.report.specs.declared.OrderRead.{OrderRead}
 use Rattle.report.specs.declared.OrderRead.the-variants.{Value, Refused as NotRead}
 
@@ -19,11 +20,16 @@ abbrev pub replyOutcome : Reply → Outcome
 replyOutcome (Written n) = result (n ∷ [])
 replyOutcome (Refused e) = refusalOutcome e
 
-abbrev pub orderRead : Checked Order → OrderRead
-orderRead (accepted o) = Value (o .s) (o .k) (o .b) (o .at)
+-- what a call that replies gives, and leaves in the slice that it was lent
+pub record ReplyDone (replied : Checked (List ℕ)) (out out-left : List ℕ) (given : Reply) : Type 0 where
+  pub answer : given ≡ reply replied
+  pub output-after : out-left ≡ written replied out
+
+abbrev pub orderRead : Checked OrderReading → OrderRead
+orderRead (accepted read) = Value read
 orderRead (refused e) = NotRead e
 
 -- an order's values are s, k, b and the place of the pack
 abbrev pub orderOutcome : OrderRead → Outcome
-orderOutcome (Value s k b at) = result (s ∷ k ∷ b ∷ at ∷ [])
+orderOutcome (Value read) = result (read .order .s ∷ read .order .k ∷ read .order .b ∷ read .at ∷ [])
 orderOutcome (NotRead e) = refusalOutcome e

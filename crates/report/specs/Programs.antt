@@ -8,11 +8,14 @@ use Rattle.refusal.specs.declared.Refusal.{Refusal}
 use Rattle.refusal.specs.declared.Refusal.the-variants.{BadOrder}
 use Rattle.refusal.specs.Refusals.{numberOf, placeOf}
 use Rattle.refusal.specs.Checked.{Checked, accepted, refused, _>>=_, mapAccepted}
-use Rattle.number.specs.Numbers.{Reading, readNumber}
+use Rattle.number.specs.Numbers.{readNumber}
+use Rattle.number.specs.declared.Reading.{Reading}
 use Rattle.layers.specs.Layers.{allRows}
 use Rattle.placement.specs.Placement.{Placement, checkPlacement, placementBytes}
-use Rattle.planner.specs.Planning.{planned}
+use Rattle.planner.specs.Planning.{plan, workMost, outputMost}
 use Rattle.packing.specs.Load.{most}
+use Rattle.report.specs.declared.Summary.{Summary}
+use Rattle.report.specs.declared.OrderReading.{OrderReading}
 use Rattle.report.specs.Load.{mean}
 
 -- n in decimal ASCII digits, at most `more` of them before the last
@@ -38,14 +41,23 @@ abbrev pub refusedWord : List ℕ
 refusedWord = 114 ∷ 101 ∷ 102 ∷ 117 ∷ 115 ∷ 101 ∷ 100 ∷ []
 
 -- "It prints `accepted F b k n most mean`"
-unfoldable pub acceptedLine : Placement → List ℕ
-acceptedLine p =
-    acceptedWord
-    ++ rest
-    (p .figure ∷ p .b ∷ p .k ∷ p .n ∷ most (p .n) (allRows (p .layers)) ∷ mean (p .b) (p .r) (p .n) ∷ [])
+abbrev pub acceptedLine : Summary → List ℕ
+acceptedLine a = acceptedWord ++ rest (a .figure ∷ a .b ∷ a .k ∷ a .n ∷ a .most ∷ a .mean ∷ [])
+
+-- "most is the largest number of rows holding one node, mean is b × r / n to the nearest whole"
+unfoldable pub summary : Placement → Summary
+summary p =
+    record {
+      figure = p .figure;
+      b = p .b;
+      k = p .k;
+      n = p .n;
+      most = most (p .n) (allRows (p .layers));
+      mean = mean (p .b) (p .r) (p .n);
+    }
 
 -- "Otherwise it prints `refused number place`."
-unfoldable pub refusedLine : Refusal → List ℕ
+abbrev pub refusedLine : Refusal → List ℕ
 refusedLine e = refusedWord ++ rest (numberOf e ∷ placeOf e ∷ [])
 
 -- what is written, or the line of the refusal
@@ -55,14 +67,7 @@ orRefusedLine (refused e) = refusedLine e
 
 -- "`check` reads a placement on standard input": what it writes
 unfoldable pub checkLine : (input : List ℕ) → List ℕ
-checkLine input = orRefusedLine (mapAccepted acceptedLine (checkPlacement input))
-
--- The order that `plan` reads, and the place of its pack.
-pub record Order : Type 0 where
-  pub s : ℕ
-  pub k : ℕ
-  pub b : ℕ
-  pub at : ℕ
+checkLine input = orRefusedLine (mapAccepted (λ p. acceptedLine (summary p)) (checkPlacement input))
 
 -- one of the three numbers: those "that can't be read give 12 and the first bad one's index"
 abbrev pub orderNumber : (index : ℕ) → Checked Reading → Checked Reading
@@ -70,19 +75,23 @@ orderNumber index (accepted number) = accepted number
 orderNumber index (refused e) = refused (BadOrder index)
 
 -- "`plan` reads s, k, b as numbers"
-unfoldable pub readOrder : (input : List ℕ) → Checked Order
+unfoldable pub readOrder : (input : List ℕ) → Checked OrderReading
 readOrder input = do
   s ← orderNumber 0 (readNumber input 0)
   k ← orderNumber 1 (readNumber input (s .next))
   b ← orderNumber 2 (readNumber input (k .next))
-  accepted (record { s = s .value; k = k .value; b = b .value; at = b .next })
+  accepted (record { order = record { s = s .value; k = k .value; b = b .value }; at = b .next })
 
--- "then a pack ..; places counted from the pack's first byte"
+-- "then a pack ..; places counted from the pack's first byte": planned with slices that no order needs more of
 unfoldable pub planInput : (input : List ℕ) → Checked Placement
 planInput input = do
-  order ← readOrder input
-  planned (drop (order .at) input) (order .s) (order .k) (order .b)
+  read ← readOrder input
+  plan (drop (read .at) input) (read .order) workMost outputMost
 
--- "and writes the placement or the refused line": what it writes
+-- "and writes the placement or the refused line"
+unfoldable pub plannedReply : Checked Placement → List ℕ
+plannedReply planned = orRefusedLine (mapAccepted placementBytes planned)
+
+-- what it writes
 unfoldable pub planReply : (input : List ℕ) → List ℕ
-planReply input = orRefusedLine (mapAccepted placementBytes (planInput input))
+planReply input = plannedReply (planInput input)

@@ -1,5 +1,25 @@
 // What the programs `check` and `plan` write: the definitions, their laws, and the types of the answers.
+use placement::Order;
 use refusal::Refusal;
+
+// The bytes that `check` asks for: every line is shorter.
+pub const LINE_NEEDED: usize = 200;
+
+// The entries that `plan` asks for: no order needs more.
+pub const WORK_MOST: usize = 20_485;
+
+// The bytes that `plan` asks for: no order needs more.
+pub const OUTPUT_MOST: usize = 20_544;
+
+// What `check` prints of an accepted placement: F, b, k, n, and the largest and the mean load of a node.
+pub struct Summary {
+    pub figure: usize,
+    pub b: usize,
+    pub k: usize,
+    pub n: usize,
+    pub most: usize,
+    pub mean: usize,
+}
 
 // What a reply gives: how many bytes were written, or the refusal of a lent slice that is too short.
 pub enum Reply {
@@ -7,13 +27,14 @@ pub enum Reply {
     Refused(Refusal),
 }
 
-// What reading `plan`'s three numbers gives: s, k and b with the place of the pack, or the refusal.
+// The order that `plan` reads, and the place of the pack after it.
+pub struct OrderReading {
+    pub order: Order,
+    pub at: usize,
+}
+
+// What reading an order gives: the order with the place of the pack, or the refusal.
 pub enum OrderRead {
-    Value {
-        s: usize,
-        k: usize,
-        b: usize,
-        at: usize,
-    },
+    Value(OrderReading),
     Refused(Refusal),
 }

@@ -1,15 +1,13 @@
 // A number in decimal, put into a slice that a caller lends.
-ghost use mathlib.Core.Path.{_≡_};
 ghost use Prim.Native.Nat.{_+_, _≤_};
 ghost use lib.ListN.{length};
-ghost use lib.Seq.{sets};
 ghost use Rattle.report.specs.Programs.{decimal};
+ghost use Rattle.report_lines.specs.Put.{Put};
 
 // Puts `n` in decimal at `at`, and answers the place after it.
 pub(crate) fn put_decimal(out: &mut [u8], at: usize, n: usize) -> usize
     requires { ⌜ at + length (decimal n) ≤ length (now out) ⌝ }
-    ensures { λ r. ⌜ (r ≡ at + length (decimal n))
-        × (now (out .exit) ≡ sets (now (out .entry)) at (decimal n)) ⌝ }
+    ensures { λ next. ⌜ Put (decimal n) (now (out .entry)) at next (now (out .exit)) ⌝ }
 {
     if n < 10 {
         out[at] = (48 + n) as u8;

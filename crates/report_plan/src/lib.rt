@@ -2,28 +2,27 @@
 mod input;
 mod reader;
 
-ghost use mathlib.Core.Path.{_≡_};
 ghost use lib.ListN.{length};
-ghost use Rattle.refusal.specs.Checked.{written};
 ghost use Rattle.report.specs.Replies.{planInto, PlanWork};
-ghost use Rattle.report.specs.Answers.{reply};
+ghost use Rattle.report.specs.Answers.{ReplyDone};
 use refusal::Refusal;
+use report::OUTPUT_MOST;
 use report::Reply;
+use report::WORK_MOST;
 
 // Puts what `plan` writes for the input at the start of `out`, and answers its length; a working slice of fewer than 20,485
 // entries and an output of fewer than 20,544 bytes are refused.
 pub fn plan_reply(input: &[u8], work: &mut [u16], out: &mut [u8]) -> Reply
-    ensures { λ r. ⌜ (r ≡ reply (planInto (now (input .entry)) (length (now (work .entry))) (length (now (out .entry)))))
-        × (now (out .exit)
-        ≡ written (planInto (now (input .entry)) (length (now (work .entry))) (length (now (out .entry)))) (now (out .entry))) ⌝ }
+    ensures { λ r. ⌜ ReplyDone (planInto (now (input .entry)) (length (now (work .entry))) (length (now (out .entry))))
+        (now (out .entry)) (now (out .exit)) r ⌝ }
     ensures { λ _. ⌜ PlanWork (now (input .entry)) (length (now (work .entry))) (length (now (out .entry)))
         (now (work .entry)) (now (work .exit)) ⌝ }
 {
-    if work.len() < 20_485 {
-        return Reply::Refused(Refusal::ShortWork(20_485));
+    if work.len() < WORK_MOST {
+        return Reply::Refused(Refusal::ShortWork(WORK_MOST));
     }
-    if out.len() < 20_544 {
-        return Reply::Refused(Refusal::ShortOutput(20_544));
+    if out.len() < OUTPUT_MOST {
+        return Reply::Refused(Refusal::ShortOutput(OUTPUT_MOST));
     }
     let length = crate::input::plan_input(input, work, out);
     Reply::Written(length)

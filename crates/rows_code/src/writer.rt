@@ -1,9 +1,22 @@
-// Writing blocks as rows.
+// Copying bytes, and writing blocks as rows.
 ghost use mathlib.Core.Path.{_≡_};
 ghost use Prim.Native.Nat.{_+_, _*_, _%_, _≤_, _<_};
 ghost use mathlib.Core.List.{_++_, flatten};
 ghost use lib.ListN.{length, drop};
+ghost use Rattle.lists.specs.Lists.{overStart};
 ghost use Rattle.packing.specs.Rows.{rowsAt, repeated};
+
+// Writes the bytes to the start of `out`.
+pub fn copy_bytes(out: &mut [u8], bytes: &[u8])
+    requires { ⌜ length (now bytes) ≤ length (now out) ⌝ }
+    ensures { λ _. ⌜ now (out .exit) ≡ overStart (now (bytes .entry)) (now (out .entry)) ⌝ }
+{
+    let mut place: usize = 0;
+    while place < bytes.len() {
+        out[place] = bytes[place];
+        place += 1;
+    }
+}
 
 // The number of the block that follows: after the last of m blocks the first one.
 fn next_block(block: usize, m: usize) -> usize
@@ -32,7 +45,7 @@ pub fn write_rows(out: &mut [u8], blocks: &[u8], m: usize, r: usize, c: usize)
     while written < c {
         let from = block * r;
         let end = from + r;
-        crate::copy::copy_row(&mut out[to..], &blocks[from..end]);
+        copy_bytes(&mut out[to..], &blocks[from..end]);
         to += r;
         block = next_block(block, m);
         written += 1;

@@ -1,18 +1,18 @@
--- What the counts look at: mu and m of the layers below s. So the arrays of a pack's numbers serve as well as its layers.
+-- What the counts look at: mu and m of the layers below s. So the code's array of five serves as well as a pack's layers.
 -- Assumes nothing.
 use Prim.Native.Nat.{ℕ, zero, suc, _+_, _-_, _<_}
 use native.Mathlib.Nat.{lt-suc-self}
 use native.Mathlib.Omega.{arith}
 use mathlib.Core.Path.{_≡_, refl, sym, ap, ap₂, _∙_}
+use mathlib.Core.Bool.{cond, _&&_}
 use mathlib.Core.List.{List, [], _∷_, _++_}
-use Rattle.binomial.specs.Choose.{choose}
-use Rattle.layers.specs.Layers.{LayerHead}
-use Rattle.split.specs.Splits.{layerAt, lossOf, leastLoss, bestCount, namedCounts}
-use Rattle.split.specs.Table.{termLoss}
+use lib.Dec.{ltb, eqb}
+use Rattle.layers.specs.declared.LayerHead.{LayerHead}
+use Rattle.placement.specs.Figure.{loss}
+use Rattle.split.specs.Splits.{layerAt, shareHead, shareOf, noSplit, lossOf, leastLoss, bestCount, namedCounts}
 use Rattle.split.proofs.Congruence.{least-congr, lastLeast-congr}
 use Rattle.split.proofs.LeastLoss.{lossAt}
 use Rattle.split.proofs.NamedCounts.{namedCounts-suc}
-use Rattle.split.proofs.Terms.{lossOf-termLoss}
 
 -- layers that agree below x
 abbrev pub AgreeBelow : (a b : List LayerHead) (x : ℕ) → Type 0
@@ -20,10 +20,9 @@ AgreeBelow a b x = (y : ℕ) → y < x → layerAt a y ≡ layerAt b y
 
 module _ (a b : List LayerHead) (s k : ℕ) where
   lossOf-congr : (x c : ℕ) → layerAt a x ≡ layerAt b x → lossOf a s k x c ≡ lossOf b s k x c
+  unfolding lossOf
   lossOf-congr x c e =
-      lossOf-termLoss a s k x c
-      ∙ ap (λ (h : LayerHead). termLoss (record { bound = h .bound; size = h .size; failed = choose k (suc x); lost = choose s (suc x) }) c) e
-      ∙ sym (lossOf-termLoss b s k x c)
+      ap (λ (h : LayerHead). cond (eqb (h .size) 0 && ltb 0 c) noSplit (loss s k x (shareHead h (shareOf h c)))) e
 
   leastLoss-congr : (x n : ℕ) → AgreeBelow a b x → leastLoss a s k x n ≡ leastLoss b s k x n
   unfolding leastLoss

@@ -9,7 +9,7 @@ use mathlib.Core.List.{List}
 use lib.ListN.{getD}
 use lib.Dec.{T}
 use borrow.Author.Tests.{ne-eqb}
-use Rattle.layers.specs.Layers.{LayerHead}
+use Rattle.layers.specs.declared.LayerHead.{LayerHead}
 use Rattle.split.specs.Splits.{layerAt, copiesFor, noSplit, lossOf, leastLoss, bestCount, namedCounts, namedSplit, hasBlock}
 use Rattle.split.proofs.Copies.{copiesFor-le-self}
 use Rattle.split.proofs.Heads.{split-count-le}

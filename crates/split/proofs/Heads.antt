@@ -8,7 +8,8 @@ use mathlib.Core.List.{List, [], _∷_, _++_}
 use lib.ListN.{length}
 use Rattle.lists.specs.Lists.{total}
 use Rattle.lists.proofs.UpTo.{map-upTo-suc, length-map-upTo, map-upTo-congr}
-use Rattle.layers.specs.Layers.{LayerHead, sizes}
+use Rattle.layers.specs.Layers.{sizes}
+use Rattle.layers.specs.declared.LayerHead.{LayerHead}
 use Rattle.placement.specs.Figure.{loss, losses}
 use Rattle.split.specs.Splits.{Share, Split, layerAt, shareHead, splitHeads}
 use Rattle.split.proofs.Losses.{losses-append, sizes-append}

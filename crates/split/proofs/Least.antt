@@ -4,17 +4,10 @@ use native.Mathlib.Nat.{le-refl, le-suc-iff}
 use native.Mathlib.Omega.{arith}
 use mathlib.Core.Path.{_≡_, refl, _∙_, ap}
 use mathlib.Core.Logic.{_⊎_, inl, inr}
-use mathlib.Core.Bool.{Bool, true, false, cond}
-use lib.Dec.{leb}
-use borrow.Author.Tests.{leb-true, leb-false, le-leb, lt-leb}
+use mathlib.Core.Bool.{cond}
+use borrow.Author.Tests.{le-leb, lt-leb}
+use Rattle.lists.proofs.Arith.{le-or-lt}
 use Rattle.split.specs.Splits.{least, lastLeast}
-
-pub le-or-lt : (a b : ℕ) → (a ≤ b) ⊎ (b < a)
-le-or-lt a b = go (leb a b) refl
-  where
-    go : (t : Bool) → leb a b ≡ t → (a ≤ b) ⊎ (b < a)
-    go true e = inl (leb-true a b e)
-    go false e = inr (leb-false a b e)
 
 module _ (f : ℕ → ℕ) where
   pub least-le : (top c : ℕ) → c ≤ top → least f top ≤ f c

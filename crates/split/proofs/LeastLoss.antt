@@ -9,10 +9,10 @@ use mathlib.Core.List.{List}
 use lib.Dec.{T, ltb, eqb, ltb→lt}
 use borrow.Author.Tests.{eqb-true}
 use Rattle.lists.specs.Lists.{any, total, upTo}
-use Rattle.layers.specs.Layers.{LayerHead}
+use Rattle.layers.specs.declared.LayerHead.{LayerHead}
 use Rattle.placement.specs.Figure.{losses}
 use Rattle.split.specs.Splits.{Share, Split, layerAt, splitHeads, noSplit, lossOf, leastLoss, bestCount, hasBlock}
-use Rattle.split.proofs.Lists.{any-take-suc}
+use Rattle.lists.proofs.Prefixes.{any-take-suc}
 use Rattle.split.proofs.Least.{least-le, lastLeast-le, lastLeast-eq, le-lastLeast, le-least}
 use Rattle.split.proofs.LossOf.{lossOf-zero, lossOf-le-self, lossOf-le-lossWith}
 use Rattle.split.proofs.Heads.{losses-suc, split-last-le, split-init}

@@ -1,5 +1,4 @@
 pub mod Worked
-pub mod Lists
 pub mod Least
 pub mod Congruence
 pub mod Copies
@@ -10,10 +9,9 @@ pub mod LeastLoss
 pub mod NamedCounts
 pub mod Named
 pub mod Bounds
-pub mod Terms
-pub mod TableRows
+pub mod LayerSteps
+pub mod TableLines
 pub mod Stepped
 pub mod Arrays
 pub mod Parts
 pub mod Filling
-pub mod LayerSteps

@@ -8,7 +8,7 @@ use mathlib.Core.Bool.{true, false, cond, _&&_, and-false}
 use mathlib.Core.List.{List}
 use lib.Dec.{eqb, ltb}
 use borrow.Author.Tests.{eq-eqb, ne-eqb, lt-ltb}
-use Rattle.layers.specs.Layers.{LayerHead}
+use Rattle.layers.specs.declared.LayerHead.{LayerHead}
 use Rattle.placement.specs.Figure.{loss}
 use Rattle.split.specs.Splits.{layerAt, shareHead, shareOf, copiesFor, noSplit, lossOf}
 use Rattle.split.proofs.Copies.{le-copiesFor-mul, copiesFor-least}
@@ -16,13 +16,13 @@ use Rattle.placement.proofs.Losses.{loss-le-size}
 use Rattle.split.proofs.Losses.{loss-mono}
 
 -- the test that a layer without a block is to hold a record
-pub refused-test : (m c : ℕ) → m ≡ 0 → 0 < c → (eqb m 0 && ltb 0 c) ≡ true
+refused-test : (m c : ℕ) → m ≡ 0 → 0 < c → (eqb m 0 && ltb 0 c) ≡ true
 refused-test m c e h = rw (eq-eqb m 0 e) (lt-ltb 0 c h)
 
-pub blocks-test : (m c : ℕ) → 0 < m → (eqb m 0 && ltb 0 c) ≡ false
+blocks-test : (m c : ℕ) → 0 < m → (eqb m 0 && ltb 0 c) ≡ false
 blocks-test m c h = rw (ne-eqb m 0 (λ e. omega arith)) refl
 
-pub no-record-test : (m : ℕ) → (eqb m 0 && ltb 0 0) ≡ false
+no-record-test : (m : ℕ) → (eqb m 0 && ltb 0 0) ≡ false
 no-record-test m = and-false (eqb m 0)
 
 module _ (layers : List LayerHead) (s k x : ℕ) where

@@ -7,9 +7,10 @@ use mathlib.Core.List.{List, [], _∷_, _++_}
 use lib.ListN.{length}
 use Rattle.lists.specs.Lists.{total}
 use Rattle.binomial.specs.Choose.{choose}
-use Rattle.layers.specs.Layers.{LayerHead, sizes}
+use Rattle.layers.specs.Layers.{sizes}
+use Rattle.layers.specs.declared.LayerHead.{LayerHead}
 use Rattle.placement.specs.Figure.{loss, losses}
-use Rattle.split.proofs.Lists.{div-le-div-right}
+use Rattle.lists.proofs.Arith.{div-le-div-right}
 
 -- a larger bound loses no less, and so do more records
 pub loss-mono : (s k x : ℕ) (g h : LayerHead) → g .bound ≤ h .bound → g .size ≤ h .size → loss s k x g ≤ loss s k x h

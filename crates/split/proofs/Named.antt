@@ -7,7 +7,7 @@ use mathlib.Core.Logic.{_⊎_, inl, inr}
 use mathlib.Core.List.{List}
 use lib.ListN.{getD}
 use lib.Dec.{T}
-use Rattle.layers.specs.Layers.{LayerHead}
+use Rattle.layers.specs.declared.LayerHead.{LayerHead}
 use Rattle.placement.specs.Figure.{losses, figureOf}
 use Rattle.split.specs.Splits.{Share, Split, Named, Foremost, layerAt, splitHeads, splitFigure, noSplit, leastLoss, namedCounts, namedSplit, hasBlock}
 use Rattle.split.proofs.Copies.{copiesFor-least}

@@ -8,7 +8,7 @@ use mathlib.Core.List.{List, [], _∷_, _++_}
 use lib.ListN.{length, getD, length-append, List·getD-append}
 use lib.Seq.{getD-at}
 use Rattle.lists.specs.Lists.{total, upTo}
-use Rattle.layers.specs.Layers.{LayerHead}
+use Rattle.layers.specs.declared.LayerHead.{LayerHead}
 use Rattle.placement.specs.Figure.{losses}
 use Rattle.split.specs.Splits.{Share, Split, Foremost, layerAt, splitHeads, shareOf, countsSplit}
 use Rattle.split.specs.Splits.{noSplit, lossOf, leastLoss, bestCount, namedCounts}

@@ -1,4 +1,4 @@
--- A row of the table by two rules, each entry from the row below and one earlier entry. A layer's loss is the smaller of one
+-- A line of the table by two rules, each entry from the line below and one earlier entry. A layer's loss is the smaller of one
 -- cost for each record and one for each copy; a sum with a floor is the floor of the sum, and the least floor is the floor of
 -- the least. Assumes nothing.
 use Prim.Native.Nat.{ℕ, zero, suc, _+_, _*_, _-_, _/_, _≤_, _<_, min}
@@ -12,12 +12,11 @@ use Rattle.lists.specs.Lists.{upTo}
 use Rattle.lists.proofs.UpTo.{map-upTo-congr}
 use Rattle.split.specs.declared.Steps.{Steps}
 use Rattle.split.specs.Splits.{copiesFor, noSplit, least, lastLeast}
-use Rattle.split.specs.Table.{LossTerms, Rising, sumAt, rowAbove, stepsOf, stepSum, StepLimits, withSteps, stepped, rowEntry}
-use Rattle.split.proofs.Lists.{div-le-div-right}
-use Rattle.split.proofs.Least.{le-or-lt, least-le, le-least}
+use Rattle.split.specs.Table.{Rising, sumAt, lineAbove, stepLoss, StepLimits, withSteps, stepped, lineEntry}
+use Rattle.lists.proofs.Arith.{le-or-lt, div-le-div-right}
+use Rattle.split.proofs.Least.{least-le, le-least}
 use Rattle.split.proofs.Congruence.{least-congr, lastLeast-congr}
 use Rattle.split.proofs.Copies.{copiesFor-le, le-copiesFor-mul}
-use Rattle.split.proofs.Terms.{termLoss-steps}
 
 -- so many steps down from b are at or past its start
 steps-past : (b d size : ℕ) → 0 < size → b ≤ d → b - d * size ≡ 0
@@ -92,29 +91,29 @@ module _ (u : Steps) (limits : StepLimits u) (below : List ℕ) (b : ℕ) where
   floor-of-sum : (n d : ℕ) → (u .lost * n + d * u .copy) / u .lost ≡ n + d * u .copy / u .lost
   floor-of-sum n d = mul-add-div (limits .lost-pos) n (d * u .copy)
 
-  least-le-byRecords : least (stepSum u below b) b ≤ byRecords
+  least-le-byRecords : least (sumAt (stepLoss u) below b) b ≤ byRecords
   unfolding stepped
   least-le-byRecords =
       le-least _ _ b (λ c h.
-      let l = least-le (stepSum u below b) b c h in
+      let l = least-le (sumAt (stepLoss u) below b) b c h in
       rw (mul-one c) (omega arith))
 
   -- of d copies the largest count is best
-  largest-count : (d : ℕ) → least (stepSum u below b) b ≤ getD below (b - d * u .size) 0 + d * u .copy / u .lost
+  largest-count : (d : ℕ) → least (sumAt (stepLoss u) below b) b ≤ getD below (b - d * u .size) 0 + d * u .copy / u .lost
   largest-count d =
       let c = min (d * u .size) b in
-      let l = least-le (stepSum u below b) b c (min-le-right _ b) in
+      let l = least-le (sumAt (stepLoss u) below b) b c (min-le-right _ b) in
       let few = copiesFor-le c (u .size) d (limits .size-pos) (min-le-left _ b) in
       let k = div-le-div-right _ _ (u .lost) (mul-le-mul-right (u .copy) few) in
       let q : b - d * u .size ≡ b - c = omega arith in
       rw q (omega arith)
 
-  least-le-byCopies : least (stepSum u below b) b ≤ byCopies / u .lost
+  least-le-byCopies : least (sumAt (stepLoss u) below b) b ≤ byCopies / u .lost
   least-le-byCopies =
       le-div-iff-mul-le (limits .lost-pos) .1 (le-stepped (u .lost) (u .size) (u .copy) below (limits .size-pos) _ b
       (λ d. le-div-iff-mul-le (limits .lost-pos) .0 (rw (floor-of-sum (getD below (b - d * u .size) 0) d) (largest-count d))))
 
-  none-less-of-both : Rising below → b < length below → (c : ℕ) → c ≤ b → rowEntry u below b ≤ stepSum u below b c
+  none-less-of-both : Rising below → b < length below → (c : ℕ) → c ≤ b → lineEntry u below b ≤ sumAt (stepLoss u) below b c
   none-less-of-both r within c h =
       let d = copiesFor c (u .size) in
       let records : byRecords ≤ 1 * getD below (b - c) 0 + c * u .each = rw (mul-one c) at (stepped-le 1 1 (u .each) below (omega arith) b c) in
@@ -124,11 +123,11 @@ module _ (u : Steps) (limits : StepLimits u) (below : List ℕ) (b : ℕ) where
       let up = r .rising (b - d * u .size) (b - c) (omega arith) (omega arith) in
       omega arith
 
-  least-steps : Rising below → b < length below → least (stepSum u below b) b ≡ rowEntry u below b
+  least-steps : Rising below → b < length below → least (sumAt (stepLoss u) below b) b ≡ lineEntry u below b
   least-steps r within =
       let x = least-le-byRecords in
       let y = least-le-byCopies in
-      le-antisymm (omega arith) (le-least (stepSum u below b) _ b (none-less-of-both r within))
+      le-antisymm (omega arith) (le-least (sumAt (stepLoss u) below b) _ b (none-less-of-both r within))
 
 -- where a copy costs the mark, or all the records that it holds, it is of no use
 module _ (u : Steps) (limits : StepLimits u) (below : List ℕ) (rising : Rising below)
@@ -158,23 +157,24 @@ module _ (u : Steps) (limits : StepLimits u) (below : List ℕ) (rising : Rising
           let f = ap (λ n. suc d * n) e in
           omega arith
 
-  pub rowEntry-records : (b : ℕ) → rowEntry u below b ≡ stepped 1 1 (u .each) below b
-  rowEntry-records b =
+  pub lineEntry-records : (b : ℕ) → lineEntry u below b ≡ stepped 1 1 (u .each) below b
+  lineEntry-records b =
       min-eq-left (le-div-iff-mul-le (limits .lost-pos) .1 (le-stepped (u .lost) (u .size) (u .copy) below (limits .size-pos) _ b (records-mul-le b)))
 
--- the whole row
-pub rowAbove-steps : (t : LossTerms) (below : List ℕ) → StepLimits (stepsOf t) → Rising below → length below ≤ 4_097
-    → rowAbove t below ≡ map (rowEntry (stepsOf t) below) (upTo (length below))
-rowAbove-steps t below limits r small =
-    map-upTo-congr _ _ (length below) (λ b h.
-    least-congr _ _ b (λ c l. ap (λ n. n + getD below (b - c) 0) (termLoss-steps t c (omega arith)))
-    ∙ least-steps (stepsOf t) limits below b r h)
+-- a loss in steps, for as many records as a line has
+module _ (loss : ℕ → ℕ) (u : Steps) (agree : (c : ℕ) → c ≤ 4_096 → loss c ≡ stepLoss u c) (below : List ℕ) where
+  sumAt-steps : (b c : ℕ) → c ≤ 4_096 → sumAt loss below b c ≡ sumAt (stepLoss u) below b c
+  sumAt-steps b c h = ap (λ n. n + getD below (b - c) 0) (agree c h)
 
--- the largest count with the least loss
-pub lastLeast-steps : (t : LossTerms) (below : List ℕ) (b : ℕ) → b ≤ 4_096
-    → lastLeast (stepSum (stepsOf t) below b) b ≡ lastLeast (sumAt t below b) b
-lastLeast-steps t below b small =
-    lastLeast-congr _ _ b (λ c l. ap (λ n. n + getD below (b - c) 0) (sym (termLoss-steps t c (omega arith))))
+  -- the whole line
+  pub lineAbove-steps : StepLimits u → Rising below → length below ≤ 4_097
+      → lineAbove loss below ≡ map (lineEntry u below) (upTo (length below))
+  lineAbove-steps limits r small =
+      map-upTo-congr _ _ (length below) (λ b h. least-congr _ _ b (λ c l. sumAt-steps b c (omega arith)) ∙ least-steps u limits below b r h)
+
+  -- the largest count with the least loss
+  pub lastLeast-steps : (b : ℕ) → b ≤ 4_096 → lastLeast (sumAt (stepLoss u) below b) b ≡ lastLeast (sumAt loss below b) b
+  lastLeast-steps b small = lastLeast-congr _ _ b (λ c l. sym (sumAt-steps b c (omega arith)))
 
 -- one record more
 pub record-step : (each : ℕ) (below : List ℕ) (i : ℕ) {records under more : ℕ} → records ≡ stepped 1 1 each below (i - 1) → under ≡ getD below i 0

@@ -4,7 +4,7 @@ use mathlib.Core.Path.{_≡_, refl}
 use mathlib.Core.List.{List, [], _∷_}
 use Rattle.lists.specs.Lists.{total, upTo}
 use Rattle.binomial.specs.Choose.{choose}
-use Rattle.layers.specs.Layers.{LayerHead}
+use Rattle.layers.specs.declared.LayerHead.{LayerHead}
 use Rattle.placement.specs.Figure.{loss, losses, figureOf}
 use Rattle.split.specs.Splits.{splitFigure, lossOf, least, lastLeast, leastLoss, bestCount, namedCounts, namedSplit}
 

@@ -8,12 +8,14 @@ use mathlib.Core.List.{List, [], _∷_, _++_, map}
 use lib.ListN.{getD, take}
 use lib.Dec.{leb, ltb, eqb}
 use Rattle.lists.specs.Lists.{any, upTo}
-use Rattle.layers.specs.Layers.{LayerHead, sizes}
+use Rattle.layers.specs.Answers.{noHead}
+use Rattle.layers.specs.Layers.{sizes}
+use Rattle.layers.specs.declared.LayerHead.{LayerHead}
 use Rattle.placement.specs.Figure.{loss, figureOf}
 
 -- mu and m of layer x; 0 and 0 where there is no such layer
 abbrev pub layerAt : List LayerHead → ℕ → LayerHead
-layerAt layers x = getD layers x (record { bound = 0; size = 0 })
+layerAt layers x = getD layers x noHead
 
 -- refusal 9 unless some layer below s has a block
 unfoldable pub hasBlock : List LayerHead → (s : ℕ) → Bool

@@ -1,25 +1,55 @@
--- The working slice: its parts, and the rows of the planner's table that stand in it. Assumes nothing.
-use Prim.Native.Nat.{ℕ, _*_, _<_, min}
+-- The working slice: its parts, and the lines of the planner's table that stand in it. Assumes nothing.
+use Prim.Native.Nat.{ℕ, suc, _+_, _*_, _-_, _≤_, _<_, min}
 use mathlib.Core.Path.{_≡_}
-use mathlib.Core.List.{List, _++_}
+use mathlib.Core.List.{List}
 use lib.ListN.{length, take, drop}
-use Rattle.layers.specs.Layers.{LayerHead}
-use Rattle.split.specs.Splits.{noSplit}
-use Rattle.split.specs.Table.{tableRow}
+use Rattle.layers.specs.Answers.{five}
+use Rattle.layers.specs.declared.LayerHead.{LayerHead}
+use Rattle.placement.specs.declared.Order.{Order}
+use Rattle.split.specs.declared.Steps.{Steps}
+use Rattle.split.specs.Splits.{noSplit, namedCounts}
+use Rattle.split.specs.Table.{Limits, StepLimits, Rising, tableLine}
 
--- the k entries of l from place a on, and l with others in their place
+-- the k entries of l from place a on
 abbrev pub part : (a k : ℕ) → List ℕ → List ℕ
 part a k l = take k (drop a l)
-
-abbrev pub put : (a k : ℕ) (l ys : List ℕ) → List ℕ
-put a k l ys = take a l ++ (ys ++ drop k (drop a l))
 
 -- what b records lose below layer 0
 abbrev pub lossBelow : (b : ℕ) → ℕ
 lossBelow b = min (b * noSplit) noSplit
 
--- the first x rows stand in the working slice, and the entries past s rows are as they were
+-- place `at` has room for a line of w entries, and the line below it stands just before
+pub record LineBelow (at w : ℕ) (work : List ℕ) : Type 0 where
+  pub small : w ≤ 4_097
+  pub back : w ≤ at
+  pub fits : at + w ≤ length work
+  pub rising : Rising (part (at - w) w work)
+
+-- a layer's steps, and the line below it, which has an entry for `left` records
+pub record Countable (u : Steps) (below : List ℕ) (left : ℕ) : Type 0 where
+  pub steps : StepLimits u
+  pub rising : Rising below
+  pub within : left < length below
+  pub small : length below ≤ 4_097
+
+-- the first x lines stand in the slice, one after another
+abbrev pub Lines : List LayerHead → (s k w x : ℕ) (work : List ℕ) → Type 0
+Lines layers s k w x work = (y : ℕ) → y < x → part (y * w) w work ≡ tableLine layers s k w y
+
+-- the first x lines were written, and the entries past s lines are as they were
 pub record Filled (layers : List LayerHead) (s k w x : ℕ) (before after : List ℕ) : Type 0 where
   pub same-length : length after ≡ length before
-  pub rows : (y : ℕ) → y < x → part (y * w) w after ≡ tableRow layers s k w y
+  pub lines : Lines layers s k w x after
   pub rest : drop (s * w) after ≡ drop (s * w) before
+
+-- an order within the limits, and a slice that has its whole table
+pub record Tabled (layers : List LayerHead) (order : Order) (work : List ℕ) : Type 0 where
+  pub limits : Limits layers order
+  pub fits : order .s * suc (order .b) ≤ length work
+  pub lines : Lines layers (order .s) (order .k) (suc (order .b)) (order .s) work
+
+-- the counts that are chosen, layer 0 first, and the working slice: only the entries of s lines are free
+pub record Chosen (layers : List LayerHead) (order : Order) (before after r : List ℕ) : Type 0 where
+  pub counts : r ≡ five 0 (namedCounts layers (order .s) (order .k) (order .s) (order .b))
+  pub same-length : length after ≡ length before
+  pub rest : drop (order .s * suc (order .b)) after ≡ drop (order .s * suc (order .b)) before

@@ -1,17 +1,19 @@
 // The count of one layer of the named split.
+use layers::LayerHead;
 use minmax::smaller;
+use placement::Order;
 use split::Steps;
 ghost use mathlib.Core.Path.{_≡_};
 ghost use Prim.Native.Nat.{_≤_, _<_};
-ghost use lib.ListN.{length};
-ghost use Rattle.split.specs.Splits.{lastLeast};
-ghost use Rattle.split.specs.Table.{StepLimits, Rising, stepSum};
+ghost use Rattle.split.specs.Splits.{lastLeast, bestCount};
+ghost use Rattle.split.specs.Table.{sumAt, stepLoss};
+ghost use Rattle.split.specs.Working.{Countable, Tabled};
 
 // The largest count of the layer above `below` that leaves the least loss of `left` records. The loss of the copies changes
 // only where one more copy is taken.
-pub(crate) fn best_count(below: &[u16], u: Steps, left: usize) -> usize
-    requires { ⌜ StepLimits u × Rising (now below) × (left < length (now below)) × (length (now below) ≤ 4097) ⌝ }
-    ensures { λ best. ⌜ best ≡ lastLeast (stepSum u (now (below .entry)) left) left ⌝ }
+fn best_count(below: &[u16], u: Steps, left: usize) -> usize
+    requires { ⌜ Countable u (now below) left ⌝ }
+    ensures { λ best. ⌜ best ≡ lastLeast (sumAt (stepLoss u) (now (below .entry)) left) left ⌝ }
 {
     let size = u.size;
     let each = u.each;
@@ -36,4 +38,23 @@ pub(crate) fn best_count(below: &[u16], u: Steps, left: usize) -> usize
         }
     }
     best
+}
+
+// The count of layer x where the layers up to it share `left` records, from the table.
+pub(crate) fn layer_count(
+    layers: [LayerHead; 5],
+    order: Order,
+    work: &[u16],
+    x: usize,
+    left: usize,
+) -> usize
+    requires { ⌜ Tabled layers order (now work) × (x < order .s) × (left ≤ order .b) ⌝ }
+    ensures { λ c. ⌜ c ≡ bestCount layers (order .s) (order .k) x left ⌝ }
+{
+    let b = order.b;
+    let w = b + 1;
+    let from = x * w;
+    let end = from + w;
+    let u = split_table::steps(layers, order, x);
+    best_count(&work[from..end], u, left)
 }

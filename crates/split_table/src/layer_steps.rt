@@ -1,18 +1,22 @@
 // A layer's losses in steps.
+use layers::LayerHead;
+use placement::Order;
 use split::Steps;
 ghost use mathlib.Core.Path.{_≡_};
-ghost use Prim.Native.Nat.{_≤_, _<_};
-ghost use lib.ListN.{getD};
-ghost use Rattle.layers.specs.Answers.{arrayHeads};
-ghost use Rattle.split.specs.Table.{termsOf, stepsOf};
+ghost use Prim.Native.Nat.{_<_};
+ghost use Rattle.split.specs.Table.{Limits, stepsOf};
 
 // The steps of layer x; in a layer without a block every one costs the mark. The binomials are looked up here, once a layer.
-pub fn steps(mu: [usize; 5], m: [usize; 5], s: usize, k: usize, x: usize) -> Steps
-    requires { ⌜ (x < s) × (s ≤ 5) × (s ≤ k) × (k ≤ 254) × (getD mu x 0 ≤ 4096) ⌝ }
-    ensures { λ u. ⌜ u ≡ stepsOf (termsOf (arrayHeads 5 mu m) s k x) ⌝ }
+pub fn steps(layers: [LayerHead; 5], order: Order, x: usize) -> Steps
+    requires { ⌜ Limits layers order × (x < order .s) ⌝ }
+    ensures { λ u. ⌜ u ≡ stepsOf layers (order .s) (order .k) x ⌝ }
 {
-    let size = m[x];
-    let copy = mu[x] * binomial_table::binomial(k, x + 1);
+    let s = order.s;
+    let k = order.k;
+    let layer = layers[x];
+    let size = layer.size;
+    let bound = layer.bound;
+    let copy = bound * binomial_table::binomial(k, x + 1);
     let lost = binomial_table::binomial(s, x + 1);
     if size == 0 {
         return Steps {

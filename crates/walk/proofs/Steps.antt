@@ -73,7 +73,7 @@ module _ (bytes : List ℕ) (walk : Cursor) where
   unfolding stepRow
   stepRow-end e = rw e
 
-  pub rowStart-end : hasRow bytes walk ≡ false → rowStart bytes walk ≡ 0
+  rowStart-end : hasRow bytes walk ≡ false → rowStart bytes walk ≡ 0
   unfolding rowStart
   rowStart-end e = rw e
 

@@ -6,13 +6,13 @@ use mathlib.Core.List.{List, [], _∷_, flatten}
 use Rattle.refusal.specs.declared.Refusal.{Refusal}
 use Rattle.refusal.specs.Checked.{accepted, mapAccepted}
 use Rattle.placement.specs.SevenCabinets.{placementFile, sevenPlacement}
-use Rattle.placement.proofs.Worked.{placements}
+use Rattle.placement.proofs.Worked.{placement-located}
 use Rattle.walk.specs.declared.Cursor.{Cursor}
 use Rattle.walk.specs.declared.WalkOpened.the-variants.{Refused}
 use Rattle.walk.specs.RowWalk.{firstRow, openWalk, hasRow, stepRow, stepWalk, openedPlace}
 
 -- the walk's place with so many rows left, nine rows of three bytes ending at byte 38
-abbrev pub nineAt : (at left : ℕ) → Cursor
+abbrev nineAt : (at left : ℕ) → Cursor
 nineAt at left = record { at = at; r = 3; left = left }
 
 -- it opens at byte 11; the first row, the last row, the end, and the end again, also for a walk past the last byte
@@ -29,7 +29,7 @@ pub walks : (openWalk (placementFile 5) ≡ accepted (nineAt 11 9))
     × (stepRow (placementFile 5) (nineAt 18_446_744_073_709_551_615 9) ≡ [])
 unfolding flatten placementFile sevenPlacement openWalk stepRow stepWalk
 walks =
-    (ap (mapAccepted (firstRow (placementFile 5))) (placements .1), refl, refl, refl, refl, refl, refl, refl, refl, refl)
+    (ap (mapAccepted firstRow) placement-located, refl, refl, refl, refl, refl, refl, refl, refl, refl)
 
 -- beside a refusal no row is left, whatever the bytes
 pub refused-ends : (bytes : List ℕ) (e : Refusal) → hasRow bytes (openedPlace (Refused e)) ≡ false

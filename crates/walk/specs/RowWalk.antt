@@ -1,5 +1,5 @@
 -- Document 01, "Row walk and programs": the row walk. Assumes nothing.
-use Prim.Native.Nat.{ℕ, zero, suc, _+_, _*_, _-_}
+use Prim.Native.Nat.{ℕ, zero, suc, _+_, _-_}
 use mathlib.Core.Path.{_≡_}
 use mathlib.Core.Bool.{Bool, cond, _&&_}
 use mathlib.Core.List.{List, [], _∷_}
@@ -8,18 +8,19 @@ use lib.Dec.{leb, ltb}
 use denote.Ref.{RefT, ptr, now}
 use Rattle.refusal.specs.Refusals.{Outcome, result, refusalOutcome}
 use Rattle.refusal.specs.Checked.{Checked, accepted, refused, mapAccepted}
-use Rattle.placement.specs.Placement.{Placement, checkPlacement}
+use Rattle.layers.specs.Layers.{Located}
+use Rattle.placement.specs.Placement.{Placement, readPlacement}
 use Rattle.walk.specs.declared.Cursor.{Cursor}
 use Rattle.walk.specs.declared.WalkOpened.{WalkOpened}
 use Rattle.walk.specs.declared.WalkOpened.the-variants.{Opened, Refused}
 
--- the place of the first row, with all rows left: the rows are the file's last bytes
-abbrev pub firstRow : List ℕ → Placement → Cursor
-firstRow bytes p = record { at = length bytes - p .b * p .r; r = p .r; left = p .b }
+-- the place of the first row, which the check hands on, with all rows left
+abbrev pub firstRow : Located Placement → Cursor
+firstRow file = let p = file .content in record { at = file .first; r = p .r; left = p .b }
 
 -- "A row walk opens on a placement (refusals as in checking)"
 unfoldable pub openWalk : List ℕ → Checked Cursor
-openWalk bytes = mapAccepted (firstRow bytes) (checkPlacement bytes)
+openWalk bytes = mapAccepted firstRow (readPlacement bytes)
 
 -- "After b steps it gives the end ..; so does a walk whose next r bytes would pass the last byte."
 abbrev pub hasRow : List ℕ → Cursor → Bool

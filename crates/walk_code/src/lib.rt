@@ -29,15 +29,11 @@ pub fn opened(bytes: &[u8]) -> WalkOpened
     let checked = placement_code::check_placement(bytes);
     let answer = checked.answer;
     match answer {
-        PlacementAnswer::Accepted {
-            n: _,
-            r,
-            s: _,
-            k: _,
-            b,
-            figure: _,
-            at,
-        } => WalkOpened::Opened(Cursor { at, r, left: b }),
+        PlacementAnswer::Accepted(head) => WalkOpened::Opened(Cursor {
+            at: head.first,
+            r: head.r,
+            left: head.b,
+        }),
         PlacementAnswer::Refused(e) => WalkOpened::Refused(e),
     }
 }

@@ -20,7 +20,7 @@ returns : tie.Need-returns
 returns c =
     let p = c .before .before .before .before in
     let s = p .before .before .before .before in
-    absurd (reply-not-refused _ (p .check-reply .ensures .0) (checkInto-enough (s .args .input .now) _ (s .pre)) (c .enum-told .given .1))
+    absurd (reply-not-refused _ (p .check-reply .ensures) (checkInto-enough (s .args .input .now) _ (s .pre)) (c .enum-told .given .1))
 
 same-length-2 : tie.Need-same-length-2
 same-length-2 c = search needs
@@ -29,8 +29,7 @@ returns-2 : tie.Need-returns-2
 returns-2 c =
     let p = c .before .before .before .before .before in
     let s = p .before .before .before .before in
-    reply-written _ (p .check-reply .ensures .0) (c .before .length .given .1) (s .args .out .now) (p .check-reply .ensures .1)
-    (checkInto-enough (s .args .input .now) _ (s .pre))
+    reply-written _ (p .check-reply .ensures) (checkInto-enough (s .args .input .now) _ (s .pre)) (c .before .length .given .1)
 
 pub reply-spec : {M : Type 1} → statement M
 reply-spec =

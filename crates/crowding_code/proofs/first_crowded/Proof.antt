@@ -1,13 +1,12 @@
 -- `crowding_code::first_crowded` meets its contract: few rows, or few with each node, need no test, and else the least row
 -- number is the answer. Assumes nothing.
 use Prim.Native.Nat.{_<_}
-use mathlib.Core.Path.{sym, ap, _∙_}
-use lib.ListN.{length}
-use lib.Dec.{lit≤}
+use mathlib.Core.Path.{_≡_, sym, ap, _∙_}
 use Rattle.lists.proofs.Tests.{T-true}
 use Rattle.packing.specs.Rows.{rowsAt, firstCrowded}
 use Rattle.packing.specs.Answers.{rowFound}
 use Rattle.packing.proofs.RowsAt.{length-rowsAt}
+use Rattle.crowding.specs.Tails.{rowNumber}
 use Rattle.crowding.proofs.Crowded.{first-none-of-few, first-none-of-loads, first-crowded-below, found-row, found-none}
 use Rattle.crowding.proofs.Order.{length-taken, taken-ascends, taken-first}
 use native.Mathlib.Omega.{arith}
@@ -15,11 +14,28 @@ use borrow.Author.Needs.{needs}
 use Rattle.crowding_code.proofs.first_crowded.Statement.{statement}
 use Rattle.crowding_code.proofs.first_crowded.Tie as tie
 
+-- where few loads are ruled out, or not; and where a row number is found
+abbrev told : tie.After-least-crowded → tie.After-few-loads
+told c = c .before .before .before
+
+abbrev start : tie.After-few-loads → tie.Start
+start c = c .before .before .before
+
+-- the row number that is found
+first : (c : tie.After-least-crowded)
+    → let a = start (told c) .args in
+    c .least-crowded .result .0 ≡ rowNumber (firstCrowded (a .x) (a .bound) (rowsAt (a .r) (a .c) (a .rows .now)))
+first c =
+    let s = start (told c) in
+    let a = s .args in
+    taken-first (a .r) (a .c) (a .rows .now) (s .pre .0 .3) (s .pre .1) (a .x) (a .bound) (c .least-crowded .result .0)
+    (omega (arith, s .pre .0)) (λ i. told c .before .before .shared-slice-known .given i .fits) (c .least-crowded .ensures)
+
 returns : tie.Need-returns
 returns c =
-    let g = c .before .before .args in
-    sym (ap rowFound (first-none-of-few (g .x) (g .bound) (rowsAt (g .r) (g .c) (g .rows .now))
-    (omega (arith, length-rowsAt (g .r) (g .c) (g .rows .now), c .if1 .taken))))
+    let a = c .before .before .args in
+    sym (ap rowFound (first-none-of-few (a .x) (a .bound) (rowsAt (a .r) (a .c) (a .rows .now))
+    (omega (arith, length-rowsAt (a .r) (a .c) (a .rows .now), c .if1 .taken))))
 
 few-loads-requires : tie.Need-few-loads-requires
 few-loads-requires c κs =
@@ -28,12 +44,13 @@ few-loads-requires c κs =
 
 returns-2 : tie.Need-returns-2
 returns-2 c =
-    let g = c .before .before .before .before .args in
-    let few = sym (c .before .few-loads .ensures) ∙ c .if2 .taken in
+    let called = c .before in
+    let a = start called .args in
+    let few = sym (called .few-loads .ensures) ∙ c .if2 .taken in
     sym
     (ap rowFound
-    (first-none-of-loads (g .r) (g .c) (g .rows .now) (λ i. c .before .before .before .shared-slice-known .given i .fits)
-    (g .x) (g .bound) (T-true few)))
+    (first-none-of-loads (a .r) (a .c) (a .rows .now) (λ i. called .before .before .shared-slice-known .given i .fits) (a .x) (a .bound)
+    (T-true few)))
 
 mul-end : tie.Need-mul-end
 mul-end c = search needs
@@ -47,40 +64,34 @@ part-least-crowded-start c = search needs
 part-least-crowded-end : tie.Need-part-least-crowded-end
 part-least-crowded-end c = search needs
 
-slice-aggregate-least-crowded : tie.Need-slice-aggregate-least-crowded
-slice-aggregate-least-crowded c = search needs
-
 least-crowded-requires : tie.Need-least-crowded-requires
 least-crowded-requires c κs =
-    let g = c .before .before .before .before .before .before .args in
-    let pre = c .before .before .before .before .before .before .pre in
-    let pos : 0 < g .r = omega (arith, pre .0) in (
-      (pre .0 .0, pre .0 .1, pre .0 .2, length-taken (g .r) (g .c) (g .rows .now) (pre .0 .3), lit≤ tt),
-      taken-ascends (g .r) (g .c) (g .rows .now) (pre .0 .3) (pre .1) pos,
-    )
+    let s = start (c .before .before) in
+    let a = s .args in
+    let pre = s .pre in
+    let some : 0 < a .r = omega (arith, pre .0) in
+    record {
+      limits = record { one = pre .0 .2; five = pre .0 .1 };
+      few = pre .0 .0;
+      whole = length-taken (a .r) (a .c) (a .rows .now) (pre .0 .3);
+      order = taken-ascends (a .r) (a .c) (a .rows .now) (pre .0 .3) (pre .1) some;
+    }
 
 returns-3 : tie.Need-returns-3
 returns-3 c =
-    let g = c .before .before .before .before .before .before .before .before .before .args in
-    let pre = c .before .before .before .before .before .before .before .before .before .pre in
-    let rows = rowsAt (g .r) (g .c) (g .rows .now) in
-    let n = c .before .before .least-crowded .result in
-    let first = taken-first (g .r) (g .c) (g .rows .now) (pre .0 .3) (pre .1) (g .x) (g .bound) n (omega (arith, pre .0))
-    (λ i. c .before .before .before .before .before .before .before .before .shared-slice-known .given i .fits)
-    (c .before .before .least-crowded .ensures) in
-    found-row n (firstCrowded (g .x) (g .bound) rows) first (c .if3 .taken)
+    let called = c .before .before in
+    let a = start (told called) .args in
+    found-row (called .least-crowded .result .0) (firstCrowded (a .x) (a .bound) (rowsAt (a .r) (a .c) (a .rows .now))) (first called)
+    (c .if3 .taken)
 
 returns-4 : tie.Need-returns-4
 returns-4 c =
-    let g = c .before .before .before .before .before .before .before .before .before .args in
-    let pre = c .before .before .before .before .before .before .before .before .before .pre in
-    let rows = rowsAt (g .r) (g .c) (g .rows .now) in
-    let n = c .before .before .least-crowded .result in
-    let first = taken-first (g .r) (g .c) (g .rows .now) (pre .0 .3) (pre .1) (g .x) (g .bound) n (omega (arith, pre .0))
-    (λ i. c .before .before .before .before .before .before .before .before .shared-slice-known .given i .fits)
-    (c .before .before .least-crowded .ensures) in
-    found-none n (length rows) (firstCrowded (g .x) (g .bound) rows) first (c .if3 .left) (first-crowded-below (g .x) (g .bound) rows)
-    (omega (arith, length-rowsAt (g .r) (g .c) (g .rows .now), pre .0))
+    let called = c .before .before in
+    let s = start (told called) in
+    let a = s .args in
+    let rows = rowsAt (a .r) (a .c) (a .rows .now) in
+    found-none (called .least-crowded .result .0) (firstCrowded (a .x) (a .bound) rows) (first called) (c .if3 .left)
+    (λ j e. omega (arith, first-crowded-below (a .x) (a .bound) rows j e, length-rowsAt (a .r) (a .c) (a .rows .now), s .pre .0))
 
 pub first-crowded-spec : {M : Type 1} → statement M
 first-crowded-spec =
@@ -93,7 +104,6 @@ first-crowded-spec =
     sub-least-crowded
     part-least-crowded-start
     part-least-crowded-end
-    slice-aggregate-least-crowded
     least-crowded-requires
     returns-3
     returns-4)

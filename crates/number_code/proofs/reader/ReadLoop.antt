@@ -14,27 +14,27 @@ use Rattle.number.proofs.Groups.{capacity, capacity-pos}
 use Rattle.number.proofs.ReadGroups.{readGroups-ends, readGroups-follows, readGroups-zero-last, readGroups-last}
 
 -- Before each turn: what is left to read answers for the whole; the sum is below the weight; the groups that may come fit.
-pub record Turn (s : List ℕ) (start left at weight sum : ℕ) : Type 0 where
+pub record ReadTurn (s : List ℕ) (start left at weight sum : ℕ) : Type 0 where
   pub same : readNumber s start ≡ readGroups left s start at weight sum
   pub sum-lt : sum < weight
   pub fits : weight * capacity left ≤ 268_435_456
 
 -- What a turn computes fits: the weight is at most that of the fourth group, and so is what a byte adds, with its top bit
 -- or without.
-pub record TurnFits (weight byte : ℕ) : Type 0 where
+pub record ReadFits (weight byte : ℕ) : Type 0 where
   pub weight-small : weight ≤ 2_097_152
   pub byte-small : weight * byte ≤ 534_773_760
   pub bits-small : weight * (byte - 128) ≤ 534_773_760
 
-pub turn-holds : (s : List ℕ) (start : ℕ) → Turn s start 4 start 1 0
+pub read-holds : (s : List ℕ) (start : ℕ) → ReadTurn s start 4 start 1 0
 unfolding readNumber
-turn-holds s start = record { same = refl; sum-lt = le-refl 1; fits = le-refl 268_435_456 }
+read-holds s start = record { same = refl; sum-lt = le-refl 1; fits = le-refl 268_435_456 }
 
-module _ (s : List ℕ) (start left at weight sum : ℕ) (turn : Turn s start left at weight sum) where
+module _ {s : List ℕ} {start left at weight sum : ℕ} (turn : ReadTurn s start left at weight sum) where
   -- no group left: four with the top bit set
-  pub turn-none : left ≤ 0 → Refused (Malformed start) ≡ numberRead (readNumber s start)
+  pub read-none : left ≤ 0 → Refused (Malformed start) ≡ numberRead (readNumber s start)
   unfolding readGroups
-  turn-none h =
+  read-none h =
       let none : left ≡ 0 = omega arith in
       sym (ap numberRead (turn .same ∙ ap (λ (l : ℕ). readGroups l s start at weight sum) none))
 
@@ -45,16 +45,16 @@ module _ (s : List ℕ) (start left at weight sum : ℕ) (turn : Turn s start le
     same-more : readNumber s start ≡ readGroups (suc (left - 1)) s start at weight sum
     same-more = turn .same ∙ ap (λ (l : ℕ). readGroups l s start at weight sum) one-more
 
-    pub turn-ends : length s ≤ at → Refused (Ended (length s)) ≡ numberRead (readNumber s start)
-    turn-ends ends = sym (ap numberRead (same-more ∙ readGroups-ends (left - 1) s start at weight sum ends))
+    pub read-ends : length s ≤ at → Refused (Ended (length s)) ≡ numberRead (readNumber s start)
+    read-ends ends = sym (ap numberRead (same-more ∙ readGroups-ends (left - 1) s start at weight sum ends))
 
-    pub turn-zero-last : at < length s → getD s at 0 ≡ 0 → start < at → Refused (Malformed start) ≡ numberRead (readNumber s start)
-    turn-zero-last inside z after =
+    pub read-zero-last : at < length s → getD s at 0 ≡ 0 → start < at → Refused (Malformed start) ≡ numberRead (readNumber s start)
+    read-zero-last inside z after =
         sym (ap numberRead (same-more ∙ readGroups-zero-last (left - 1) s start at weight sum inside z after))
 
-    pub turn-last : at < length s → getD s at 0 < 128 → (start < at → 0 < getD s at 0)
-        → Value (sum + weight * getD s at 0) (at + 1) ≡ numberRead (readNumber s start)
-    turn-last inside small pos =
+    pub read-last : at < length s → getD s at 0 < 128 → (start < at → 0 < getD s at 0)
+        → Value (record { value = sum + weight * getD s at 0; next = at + 1 }) ≡ numberRead (readNumber s start)
+    read-last inside small pos =
         rw add-one (sym (ap numberRead (same-more ∙ readGroups-last (left - 1) s start at weight sum inside small pos)))
 
     -- the weight is at most that of the fourth group
@@ -64,17 +64,17 @@ module _ (s : List ℕ) (start left at weight sum : ℕ) (turn : Turn s start le
         let fit : weight * capacity (suc (left - 1)) ≤ 268_435_456 = rw one-more at (turn .fits) in
         omega arith
 
-    pub turn-fits : (byte : ℕ) → byte < 256 → TurnFits weight byte
-    turn-fits byte h =
+    pub read-fits : (byte : ℕ) → byte < 256 → ReadFits weight byte
+    read-fits byte h =
         record {
           weight-small = weight-le;
           byte-small = mul-le-mul {n₂ = 2_097_152} {m₂ = 255} weight-le (omega arith);
           bits-small = mul-le-mul {n₂ = 2_097_152} {m₂ = 255} weight-le (omega arith);
         }
 
-    pub turn-again : at < length s → 128 ≤ getD s at 0 → getD s at 0 < 256
-        → Turn s start (left - 1) (at + 1) (weight * 128) (sum + weight * (getD s at 0 - 128))
-    turn-again inside follows byte =
+    pub read-again : at < length s → 128 ≤ getD s at 0 → getD s at 0 < 256
+        → ReadTurn s start (left - 1) (at + 1) (weight * 128) (sum + weight * (getD s at 0 - 128))
+    read-again inside follows byte =
         let bits : weight * (getD s at 0 - 128) ≤ weight * 127 = mul-le-mul-left weight (omega arith) in
         let fit : weight * capacity (suc (left - 1)) ≤ 268_435_456 = rw one-more at (turn .fits) in
         record {

@@ -1,60 +1,174 @@
--- `placement_code::check_placement` meets its contract: the kind is read, and what follows it checked. Assumes nothing.
-use mathlib.Core.Path.{_∙_, sym, ap}
+-- `placement_code::check_placement` meets its contract: each return is a case of `readPlacement`, over what reading the
+-- numbers, checking the rows and the figure ensure. Assumes nothing.
+use native.Mathlib.Omega.{arith}
+use mathlib.Core.Path.{_≡_, _∙_}
+use Rattle.refusal.specs.Checked.{accepted}
+use Rattle.refusal.proofs.Checked.{verdict-good, verdict-refused}
+use Rattle.layers.specs.Layers.{readBase, checkRows}
+use Rattle.layers.proofs.Heads.{reads-of-readBase}
+use Rattle.layers.proofs.Answered.{LayersGood, base-refused, base-good, layers-refused, layers-good}
+use Rattle.placement.specs.Placement.{placementLayerLimits, readTerms}
+use Rattle.placement.proofs.Answered.{terms-refused, terms-good}
+use Rattle.placement_code.proofs.Checking.{order-limits, placement-rows-asked, figure-asked, placement-no-base, no-terms, placement-no-layers, placement-no-rows, wrong-figure, right-figure}
 use borrow.Author.Needs.{needs}
-use Rattle.number.specs.Numbers.{Reading}
-use Rattle.layers.specs.Layers.{readKind}
-use Rattle.layers.proofs.Stages.{stage-refused, stage-read}
-use Rattle.placement.specs.Answers.{placementChecked}
-use Rattle.placement.specs.Stages.{afterKind}
-use Rattle.placement.proofs.Stages.{stages}
 use Rattle.placement_code.proofs.check_placement.Statement.{statement}
 use Rattle.placement_code.proofs.check_placement.Tie as tie
 
-read-kind-requires : tie.Need-read-kind-requires
-read-kind-requires c κs = search needs
+read-base-requires : tie.Need-read-base-requires
+read-base-requires c κs = search needs
 
-enum-known-read : tie.Need-enum-known-read
-enum-known-read c = search needs
-
-enum-told : tie.Need-enum-told
-enum-told c = search needs
-
-refusal-of-requires : tie.Need-refusal-of-requires
-refusal-of-requires c κs = search needs
+enum-known-head-verdict : tie.Need-enum-known-head-verdict
+enum-known-head-verdict c = search needs
 
 refuse-requires : tie.Need-refuse-requires
 refuse-requires c κs = search needs
 
+-- what was read and found good before a place
+base-of : (c : tie.After-enum-told) → let head = c .before .before .read-base .result in
+    readBase 2 (c .before .before .before .before .args .bytes .now) ≡ accepted (record { base = head .base; next = head .next })
+base-of c = base-good _ (c .before .before .read-base .ensures) (c .enum-told .given .1)
+
+terms-of : (c : tie.After-enum-told2) → let read = c .before .before .read-terms .result in
+    let head = c .before .before .before .before .before .before .read-base .result in
+    readTerms (head .base) (c .before .before .before .before .before .before .before .before .args .bytes .now) (head .next)
+    ≡ accepted (record { terms = read .terms; next = read .next })
+terms-of c = terms-good _ (c .before .before .read-terms .ensures) (c .enum-told2 .given .1)
+
+layers-of : (c : tie.After-enum-told3) → let read = c .before .before .before .before .before .before .read-terms .result in
+    LayersGood placementLayerLimits (read .terms .s) (read .terms .b)
+    (c .before .before .before .before .before .before .before .before .before .before .before .before .args .bytes .now)
+    (read .next) (c .before .before .read-layers .result)
+layers-of c =
+    let o = c .before .before .before .before in
+    let limits = order-limits _ (base-of (o .before .before .before .before)) (terms-of o) in
+    layers-good _ _ _ _ _ (c .before .before .read-layers .ensures) (c .enum-told3 .given .1) (omega (arith, limits .1 .s-most, limits .0 .r-most))
+
 returns : tie.Need-returns
 returns c =
-    let a = c .before .before .before .before .before .before .args in
     c .refuse .ensures
-    ∙ stage-refused (placementChecked (a .bytes .now)) (readKind 2 (a .bytes .now))
-    (λ kind. afterKind (a .bytes .now) (kind .next)) _ (c .before .before .before .before .read-kind .ensures)
-    (c .before .before .enum-told .given .1) (c .before .refusal-of .ensures)
-    ∙ sym (ap (placementChecked (a .bytes .now)) (stages (a .bytes .now)))
+    ∙ placement-no-base _ (base-refused (readBase 2 _) (c .before .before .before .before .read-base .ensures) (c .before .before .head-verdict .given .1))
 
-after-kind-requires : tie.Need-after-kind-requires
-after-kind-requires c κs = search needs
+enum-told : tie.Need-enum-told
+enum-told c = search needs
+
+read-terms-requires : tie.Need-read-terms-requires
+read-terms-requires c κs =
+    omega (arith, reads-of-readBase 2 _ (base-of (c .before)) .1 .n-least)
+
+enum-known-read-verdict : tie.Need-enum-known-read-verdict
+enum-known-read-verdict c = search needs
+
+refuse-requires-2 : tie.Need-refuse-requires-2
+refuse-requires-2 c κs = search needs
 
 returns-2 : tie.Need-returns-2
 returns-2 c =
-    let a = c .before .before .before .before .before .before .args in
-    c .after-kind .ensures
-    ∙ stage-read (placementChecked (a .bytes .now)) (readKind 2 (a .bytes .now))
-    (λ kind. afterKind (a .bytes .now) (kind .next)) _ (c .before .before .before .before .read-kind .ensures)
-    (c .before .before .read .given .1)
-    ∙ sym (ap (placementChecked (a .bytes .now)) (stages (a .bytes .now)))
+    let b = c .before .before .before .before .before .before in
+    c .refuse2 .ensures
+    ∙ no-terms _ (base-of b)
+    (terms-refused (readTerms _ _ _) (c .before .before .before .before .read-terms .ensures) (c .before .before .read-verdict .given .1))
+
+enum-told-2 : tie.Need-enum-told-2
+enum-told-2 c = search needs
+
+read-layers-requires : tie.Need-read-layers-requires
+read-layers-requires c κs =
+    let o = c .before in
+    let limits = order-limits _ (base-of (o .before .before .before .before)) (terms-of o) in
+    omega (arith, limits .1 .s-most, limits .0 .r-most)
+
+enum-known-numbers-verdict : tie.Need-enum-known-numbers-verdict
+enum-known-numbers-verdict c = search needs
+
+refuse-requires-3 : tie.Need-refuse-requires-3
+refuse-requires-3 c κs = search needs
+
+returns-3 : tie.Need-returns-3
+returns-3 c =
+    let o = c .before .before .before .before .before .before in
+    c .refuse3 .ensures
+    ∙ placement-no-layers _ (base-of (o .before .before .before .before)) (terms-of o)
+    (layers-refused _ _ _ _ _ (c .before .before .before .before .read-layers .ensures) (c .before .before .numbers-verdict .given .1))
+
+enum-told-3 : tie.Need-enum-told-3
+enum-told-3 c = search needs
+
+check-rows-requires : tie.Need-check-rows-requires
+check-rows-requires c κs =
+    let l = c .before in
+    let o = l .before .before .before .before in
+    placement-rows-asked _ (base-of (o .before .before .before .before)) (terms-of o) (layers-of l)
+
+enum-known-rows-verdict : tie.Need-enum-known-rows-verdict
+enum-known-rows-verdict c = search needs
+
+refuse-requires-4 : tie.Need-refuse-requires-4
+refuse-requires-4 c κs = search needs
+
+returns-4 : tie.Need-returns-4
+returns-4 c =
+    let l = c .before .before .before .before .before .before in
+    let o = l .before .before .before .before in
+    c .refuse4 .ensures
+    ∙ placement-no-rows _ (base-of (o .before .before .before .before)) (terms-of o) (layers-of l)
+    (verdict-refused (checkRows _ _ _ _) (c .before .before .before .before .check-rows .ensures) (c .before .before .rows-verdict .given .1))
+
+enum-told-4 : tie.Need-enum-told-4
+enum-told-4 c = search needs
+
+figure-of-requires : tie.Need-figure-of-requires
+figure-of-requires c κs =
+    let l = c .before .before .before .before in
+    let o = l .before .before .before .before in
+    figure-asked _ (base-of (o .before .before .before .before)) (terms-of o) (layers-of l)
+
+refuse-requires-5 : tie.Need-refuse-requires-5
+refuse-requires-5 c κs = search needs
+
+returns-5 : tie.Need-returns-5
+returns-5 c =
+    let r = c .before .before .before .before in
+    let l = r .before .before .before .before in
+    let o = l .before .before .before .before in
+    c .refuse5 .ensures
+    ∙ wrong-figure _ (base-of (o .before .before .before .before)) (terms-of o) (layers-of l)
+    (verdict-good (checkRows _ _ _ _) (r .before .before .check-rows .ensures) (r .enum-told4 .given .1) .1)
+    (c .before .before .before .figure-of .ensures) (c .before .if1 .taken)
+
+returns-6 : tie.Need-returns-6
+returns-6 c =
+    let r = c .before .before .before in
+    let l = r .before .before .before .before in
+    let o = l .before .before .before .before in
+    right-figure _ (base-of (o .before .before .before .before)) (terms-of o) (layers-of l)
+    (verdict-good (checkRows _ _ _ _) (r .before .before .check-rows .ensures) (r .enum-told4 .given .1) .1)
+    (c .before .before .figure-of .ensures) (c .if1 .left)
 
 pub check-placement-spec : {M : Type 1} → statement M
 check-placement-spec =
     tie.close
     (tie.spec
-    read-kind-requires
-    enum-known-read
-    enum-told
-    refusal-of-requires
+    read-base-requires
+    enum-known-head-verdict
     refuse-requires
     returns
-    after-kind-requires
-    returns-2)
+    enum-told
+    read-terms-requires
+    enum-known-read-verdict
+    refuse-requires-2
+    returns-2
+    enum-told-2
+    read-layers-requires
+    enum-known-numbers-verdict
+    refuse-requires-3
+    returns-3
+    enum-told-3
+    check-rows-requires
+    enum-known-rows-verdict
+    refuse-requires-4
+    returns-4
+    enum-told-4
+    figure-of-requires
+    refuse-requires-5
+    returns-5
+    returns-6)

@@ -23,7 +23,8 @@ returns : tie.Need-returns
 returns c =
     let p = c .before .before .before .before .before .before in
     let s = p .before .before .before .before .before .before in
-    absurd (reply-not-refused _ (p .plan-reply .ensures .0 .0) (planInto-enough _ _ (s .pre .0) (s .args .input .now) (s .pre .1)) (c .enum-told .given .1))
+    let enough = planInto-enough _ _ (s .pre .0) (s .args .input .now) (s .pre .1) in
+    absurd (reply-not-refused _ (p .plan-reply .ensures .0) enough (c .enum-told .given .1))
 
 same-length-3 : tie.Need-same-length-3
 same-length-3 c = search needs
@@ -35,8 +36,8 @@ returns-2 : tie.Need-returns-2
 returns-2 c =
     let p = c .before .before .before .before .before .before .before in
     let s = p .before .before .before .before .before .before in
-    reply-written _ (p .plan-reply .ensures .0 .0) (c .before .length .given .1) (s .args .out .now) (p .plan-reply .ensures .0 .1)
-    (planInto-enough _ _ (s .pre .0) (s .args .input .now) (s .pre .1))
+    let enough = planInto-enough _ _ (s .pre .0) (s .args .input .now) (s .pre .1) in
+    reply-written _ (p .plan-reply .ensures .0) enough (c .before .length .given .1)
 
 pub reply-spec : {M : Type 1} → statement M
 reply-spec =

@@ -5,12 +5,12 @@ use native.Mathlib.Nat.{le-refl}
 use mathlib.Core.Path.{_≡_, refl, sym, _∙_}
 use mathlib.Core.List.{List, [], _∷_, _++_}
 use lib.ListN.{length, set, length-append}
-use lib.Seq.{sets}
 use lib.Dec.{ltb}
 use borrow.Author.Tests.{ltb-true, ltb-false, lt-ltb, le-ltb}
 use Rattle.lists.proofs.Tests.{cond-elim}
 use Rattle.report.specs.Programs.{digits, decimal}
 use Rattle.lists.proofs.Stores.{sets-append}
+use Rattle.report_lines.specs.Put.{Put}
 
 -- how many numbers n digits hold
 abbrev tens : ℕ → ℕ
@@ -55,7 +55,7 @@ unfolding decimal
 decimal-small n h = digits-small 19 n h
 
 -- a larger one is a tenth of it, and its last digit
-pub decimal-large : (n : ℕ) → 10 ≤ n → n < 18_446_744_073_709_551_616
+decimal-large : (n : ℕ) → 10 ≤ n → n < 18_446_744_073_709_551_616
     → decimal n ≡ decimal (n / 10) ++ ((48 + n % 10) ∷ [])
 unfolding decimal
 decimal-large n h fits = rw (digits-large 18 n h, digits-more 18 (n / 10) (omega arith))
@@ -69,18 +69,15 @@ pub decimal-length-large : (n : ℕ) → 10 ≤ n → n < 18_446_744_073_709_551
     → length (decimal n) ≡ length (decimal (n / 10)) + 1
 decimal-length-large n h fits = rw (decimal-large n h fits) (length-append (decimal (n / 10)) _)
 
--- What putting n at a place answers and leaves, over the slice before it.
-abbrev pub PutDecimal : (before : List ℕ) (at n next : ℕ) (after : List ℕ) → Type 0
-PutDecimal before at n next after =
-    (next ≡ at + length (decimal n)) × (after ≡ sets before at (decimal n))
-
 module _ (before : List ℕ) (at n : ℕ) where
-  pub put-small : n < 10 → PutDecimal before at n (at + 1) (set before at (48 + n))
-  put-small h = rw (decimal-small n h) (refl, refl)
+  pub put-small : n < 10 → Put (decimal n) before at (at + 1) (set before at (48 + n))
+  put-small h = rw (decimal-small n h) (record { ends = refl; stored = refl })
 
   pub put-large : (last : ℕ) (after : List ℕ) → 10 ≤ n → n < 18_446_744_073_709_551_616
-      → PutDecimal before at (n / 10) last after → PutDecimal before at n (last + 1) (set after last (48 + n % 10))
-  put-large last after h fits (e, f) = (
-    omega (arith, decimal-length-large n h fits),
-    rw (e, f, decimal-large n h fits, sets-append before at (decimal (n / 10)) ((48 + n % 10) ∷ [])),
-  )
+      → Put (decimal (n / 10)) before at last after → Put (decimal n) before at (last + 1) (set after last (48 + n % 10))
+  put-large last after h fits p =
+      record {
+        ends = omega (arith, decimal-length-large n h fits, p .ends);
+        stored =
+            rw (p .ends, p .stored, decimal-large n h fits, sets-append before at (decimal (n / 10)) ((48 + n % 10) ∷ []));
+      }

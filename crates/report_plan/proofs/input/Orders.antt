@@ -6,26 +6,22 @@ use lib.ListN.{length, take, drop}
 use Rattle.lists.proofs.Writing.{take-drop-rest}
 use Rattle.refusal.specs.declared.Refusal.{Refusal}
 use Rattle.refusal.specs.Checked.{Checked, accepted, refused}
-use Rattle.planner.specs.Planning.{planned}
-use Rattle.report.specs.Programs.{Order, readOrder, refusedLine, planInput, planReply}
-use Rattle.report.specs.Replies.{Replied, plannedReply, WorkLeft}
+use Rattle.planner.specs.Planning.{plan, workMost, outputMost, WorkAfter}
+use Rattle.report.specs.Programs.{readOrder, refusedLine, planInput, plannedReply, planReply}
+use Rattle.report.specs.Replies.{Replied}
 use Rattle.report.specs.Answers.{orderRead}
+use Rattle.report.specs.declared.OrderReading.{OrderReading}
 use Rattle.report.specs.declared.OrderRead.{OrderRead}
 use Rattle.report.specs.declared.OrderRead.the-variants.{Value, Refused}
 use Rattle.report.proofs.Orders.{order-place}
+use Rattle.report.proofs.Slices.{plan-most}
 
 -- the code's answer says what was read
-orderRead-value : (o : Checked Order) {s k b at : ℕ} → Value s k b at ≡ orderRead o
-    → o ≡ accepted (record { s = s; k = k; b = b; at = at })
-orderRead-value (accepted o) {s} {k} {b} {at} e =
-    let s-is : o .s ≡ s = cc in
-    let k-is : o .k ≡ k = cc in
-    let b-is : o .b ≡ b = cc in
-    let at-is : o .at ≡ at = cc in
-    λ i. accepted (record { s = s-is i; k = k-is i; b = b-is i; at = at-is i })
+orderRead-value : (o : Checked OrderReading) {read : OrderReading} → Value read ≡ orderRead o → o ≡ accepted read
+orderRead-value (accepted o) e = cc
 orderRead-value (refused why) e = cc
 
-orderRead-refused : (o : Checked Order) {why : Refusal} → Refused why ≡ orderRead o → o ≡ refused why
+orderRead-refused : (o : Checked OrderReading) {why : Refusal} → Refused why ≡ orderRead o → o ≡ refused why
 orderRead-refused (accepted o) e = cc
 orderRead-refused (refused why) e = cc
 
@@ -33,26 +29,26 @@ orderRead-refused (refused why) e = cc
 module _ (input : List ℕ) (answer : OrderRead) (is : answer ≡ orderRead (readOrder input)) where
   pub order-refused : {why : Refusal} {n : ℕ} {before after : List ℕ} (work : List ℕ) → answer ≡ Refused why
       → Replied (refusedLine why) n before after
-      → Replied (planReply input) n before after × WorkLeft (planInput input) work work
-  unfolding planReply planInput
+      → Replied (planReply input) n before after × WorkAfter (planInput input) work work
+  unfolding planReply planInput plannedReply
   order-refused work a line =
       let e = orderRead-refused (readOrder input) (sym a ∙ is) in
       rw e (line, refl)
 
-  module _ {s k b at : ℕ} (a : answer ≡ Value s k b at) where
-    read : readOrder input ≡ accepted (record { s = s; k = k; b = b; at = at })
-    read = orderRead-value (readOrder input) (sym a ∙ is)
+  module _ {read : OrderReading} (a : answer ≡ Value read) where
+    was-read : readOrder input ≡ accepted read
+    was-read = orderRead-value (readOrder input) (sym a ∙ is)
 
-    pub order-inside : at ≤ length input
-    order-inside = order-place input read .1
+    pub order-inside : read .at ≤ length input
+    order-inside = order-place input was-read .1
 
-    -- the pack as the code lends it
-    abbrev pack : List ℕ
-    pack = take (length input - at) (drop at input)
-
-    pub order-planned : {n : ℕ} {before after : List ℕ} (work worked : List ℕ) → Replied (plannedReply pack s k b) n before after
-        → WorkLeft (planned pack s k b) work worked
-        → Replied (planReply input) n before after × WorkLeft (planInput input) work worked
-    unfolding planReply planInput plannedReply
-    order-planned work worked r w =
-        rw read (rw (take-drop-rest input at) at r, rw (take-drop-rest input at) at w)
+    -- the pack as the code lends it, in slices that are long enough
+    pub order-planned : {n : ℕ} (work worked before after : List ℕ) → workMost ≤ length work → outputMost ≤ length before
+        → let planned = plan (take (length input - read .at) (drop (read .at) input)) (read .order) (length work) (length before) in
+        Replied (plannedReply planned) n before after → WorkAfter planned work worked
+        → Replied (planReply input) n before after × WorkAfter (planInput input) work worked
+    unfolding planReply planInput
+    order-planned work worked before after entries room r w =
+        let pack = take-drop-rest input (read .at) in
+        let most = plan-most (drop (read .at) input) (read .order) (length work) (length before) entries room in
+        rw was-read (rw (pack, most) at r, rw (pack, most) at w)

@@ -26,8 +26,9 @@ same-length-2 c = search needs
 returns-3 : tie.Need-returns-3
 returns-3 c =
     let p = c .before .before .before .before in
-    let a = p .before .before .before .before .before .before .before .before .args in
-    plan-written (a .input .now) (a .work .now) (a .out .now) _ _ (p .before .before .before .before .if1 .left) (p .before .before .before .if2 .left)
+    let i = p .before .before .before in
+    let a = i .before .before .before .before .before .args in
+    plan-written (a .input .now) (a .work .now) (a .out .now) _ _ (i .before .if1 .left) (i .if2 .left)
     (p .plan-input .ensures .0) (p .plan-input .ensures .1)
 
 pub plan-reply-spec : {M : Type 1} → statement M

@@ -5,7 +5,8 @@ use mathlib.Core.List.{List}
 use Rattle.refusal.specs.declared.Refusal.{Refusal}
 use Rattle.refusal.specs.declared.Refusal.the-variants.{BadOrder}
 use Rattle.refusal.specs.Checked.{accepted, refused}
-use Rattle.number.specs.Numbers.{Reading, readNumber}
+use Rattle.number.specs.Numbers.{readNumber}
+use Rattle.number.specs.declared.Reading.{Reading}
 use Rattle.report.specs.Programs.{readOrder}
 use Rattle.report.specs.Answers.{orderRead}
 use Rattle.report.specs.declared.OrderRead.the-variants.{Value, Refused}
@@ -29,6 +30,7 @@ module _ (input : List ℕ) where
       b-refused e = rw (e₁, e₂, e)
 
       pub order-is : {b : Reading} → readNumber input (k .next) ≡ accepted b
-          → Value (s .value) (k .value) (b .value) (b .next) ≡ orderRead (readOrder input)
+          → Value (record { order = record { s = s .value; k = k .value; b = b .value }; at = b .next })
+          ≡ orderRead (readOrder input)
       unfolding readOrder
       order-is e = rw (e₁, e₂, e)

@@ -10,8 +10,9 @@ use mathlib.Core.List.{List}
 use lib.ListN.{getD}
 use Rattle.split.specs.declared.Steps.{Steps}
 use Rattle.split.specs.Splits.{copiesFor, least, lastLeast}
-use Rattle.split.specs.Table.{stepSum}
-use Rattle.split.proofs.Least.{le-or-lt, least-suc, lastLeast-suc-le, lastLeast-suc-lt}
+use Rattle.split.specs.Table.{sumAt, stepLoss}
+use Rattle.lists.proofs.Arith.{le-or-lt}
+use Rattle.split.proofs.Least.{least-suc, lastLeast-suc-le, lastLeast-suc-lt}
 use Rattle.split.proofs.Copies.{copiesFor-le, le-copiesFor-mul}
 
 -- where a scan is: the places up to c were looked at
@@ -24,42 +25,43 @@ unfolding least lastLeast
 scan-none f e = record { last-least = refl; low-least = e }
 
 -- the next place is taken, or left
-scan-taken : (f : ℕ → ℕ) (c best low : ℕ) {now : ℕ} → ScanTo f c best low → now ≡ f (suc c) → now ≤ low → ScanTo f (suc c) (suc c) now
-scan-taken f c best low s e h =
-    let g = s .low-least in
-    let l = least-suc f c in
-    record { last-least = sym (lastLeast-suc-le f c (omega arith)); low-least = omega arith }
+module _ (f : ℕ → ℕ) {c best low now : ℕ} (s : ScanTo f c best low) (e : now ≡ f (suc c)) where
+  scan-taken : now ≤ low → ScanTo f (c + 1) (c + 1) now
+  scan-taken h =
+      let g = s .low-least in
+      let l = least-suc f c in
+      rw (add-one c) (record { last-least = sym (lastLeast-suc-le f c (omega arith)); low-least = omega arith })
 
-scan-left : (f : ℕ → ℕ) (c best low : ℕ) {now : ℕ} → ScanTo f c best low → now ≡ f (suc c) → low < now → ScanTo f (suc c) best low
-scan-left f c best low s e h =
-    let g = s .low-least in
-    let l = least-suc f c in
-    record { last-least = s .last-least ∙ sym (lastLeast-suc-lt f c (omega arith)); low-least = omega arith }
+  scan-left : low < now → ScanTo f (c + 1) best low
+  scan-left h =
+      let g = s .low-least in
+      let l = least-suc f c in
+      rw (add-one c) (record { last-least = s .last-least ∙ sym (lastLeast-suc-lt f c (omega arith)); low-least = omega arith })
 
-module _ (u : Steps) (below : List ℕ) (left : ℕ) where
-  -- the counts up to c were looked at; the copies hold c records, with one copy fewer at most c
-  pub record Counted (best low copies paid c : ℕ) : Type 0 where
-    pub within : c ≤ left
-    pub few : copies ≤ c + 1
-    pub held : c ≤ copies * u .size
-    pub needed : copies * u .size ≤ c + u .size
-    pub floor : paid ≡ copies * u .copy / u .lost
-    pub scan : ScanTo (stepSum u below left) c best low
+-- the counts up to c were looked at; the copies hold c records, with one copy fewer at most c
+pub record Counted (u : Steps) (below : List ℕ) (left best low copies paid c : ℕ) : Type 0 where
+  pub within : c ≤ left
+  pub few : copies ≤ c + 1
+  pub held : c ≤ copies * u .size
+  pub needed : copies * u .size ≤ c + u .size
+  pub floor : paid ≡ copies * u .copy / u .lost
+  pub scan : ScanTo (sumAt (stepLoss u) below left) c best low
 
-  pub counted-none : (low : ℕ) → low ≡ getD below left 0 → Counted 0 low 0 0 0
-  counted-none low e =
+module _ {u : Steps} {below : List ℕ} {left : ℕ} where
+  pub counted-none : {low : ℕ} → low ≡ getD below left 0 → Counted u below left 0 low 0 0 0
+  counted-none e =
       record {
         within = omega arith;
         few = omega arith;
         held = omega arith;
         needed = omega arith;
         floor = sym (ap (λ n. n / u .lost) (zero-mul (u .copy)) ∙ zero-div (u .lost));
-        scan = scan-none (stepSum u below left) (e ∙ (rw (sub-zero left) (omega arith)));
+        scan = scan-none (sumAt (stepLoss u) below left) (e ∙ (rw (sub-zero left) (omega arith)));
       }
 
-  module _ (blocks : 0 < u .size) (best low copies paid c : ℕ) (s : Counted best low copies paid c) (turn : c < left) where
+  module _ (blocks : 0 < u .size) {best low copies paid c : ℕ} (s : Counted u below left best low copies paid c) (turn : c < left) where
     -- one copy more
-    pub counted-more : copies * u .size ≡ c → Counted best low (copies + 1) ((copies + 1) * u .copy / u .lost) c
+    pub counted-more : copies * u .size ≡ c → Counted u below left best low (copies + 1) ((copies + 1) * u .copy / u .lost) c
     counted-more e =
         let g = le-mul-of-pos-right copies blocks in
         record {
@@ -72,7 +74,10 @@ module _ (u : Steps) (below : List ℕ) (left : ℕ) where
         }
 
     -- or one record more
-    module _ (loss : ℕ) (room : c < copies * u .size) (e : loss ≡ min ((c + 1) * u .each) paid + getD below (left - (c + 1)) 0) where
+    module _ (room : c < copies * u .size) {cost : ℕ} (e : cost ≡ min ((c + 1) * u .each) paid) where
+      abbrev loss : ℕ
+      loss = cost + getD below (left - (c + 1)) 0
+
       copies-eq : copiesFor (suc c) (u .size) ≡ copies
       copies-eq =
           le-antisymm (copiesFor-le (suc c) (u .size) copies blocks (omega arith)) (go (le-or-lt copies (copiesFor (suc c) (u .size))))
@@ -86,10 +91,10 @@ module _ (u : Steps) (below : List ℕ) (left : ℕ) where
               let n = s .needed in
               absurd (omega arith)
 
-      loss-eq : loss ≡ stepSum u below left (suc c)
-      loss-eq = e ∙ rw (add-one c, copies-eq, s .floor) refl
+      loss-eq : loss ≡ sumAt (stepLoss u) below left (suc c)
+      loss-eq = ap (λ n. n + getD below (left - (c + 1)) 0) e ∙ rw (add-one c, copies-eq, s .floor) refl
 
-      pub counted-taken : loss ≤ low → Counted (c + 1) loss copies paid (c + 1)
+      pub counted-taken : loss ≤ low → Counted u below left (c + 1) loss copies paid (c + 1)
       counted-taken h =
           let f = s .few in
           let n = s .needed in
@@ -99,10 +104,10 @@ module _ (u : Steps) (below : List ℕ) (left : ℕ) where
             held = omega arith;
             needed = omega arith;
             floor = s .floor;
-            scan = rw add-one (scan-taken (stepSum u below left) c best low (s .scan) loss-eq h);
+            scan = scan-taken (sumAt (stepLoss u) below left) (s .scan) loss-eq h;
           }
 
-      pub counted-left : low < loss → Counted best low copies paid (c + 1)
+      pub counted-left : low < loss → Counted u below left best low copies paid (c + 1)
       counted-left h =
           let f = s .few in
           let n = s .needed in
@@ -112,5 +117,5 @@ module _ (u : Steps) (below : List ℕ) (left : ℕ) where
             held = omega arith;
             needed = omega arith;
             floor = s .floor;
-            scan = rw add-one (scan-left (stepSum u below left) c best low (s .scan) loss-eq h);
+            scan = scan-left (sumAt (stepLoss u) below left) (s .scan) loss-eq h;
           }

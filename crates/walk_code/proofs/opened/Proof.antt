@@ -14,14 +14,10 @@ enum-known-answer-2 : tie.Need-enum-known-answer-2
 enum-known-answer-2 c = search needs
 
 returns : tie.Need-returns
-returns c =
-    openedOf-checked (c .before .before .before .before .before .args .bytes .now) _
-    (c .before .before .before .check-placement .ensures) (c .before .answer .given .1)
+returns c = openedOf-checked _ _ (c .before .before .before .check-placement .ensures) (c .before .answer .given .1)
 
 returns-2 : tie.Need-returns-2
-returns-2 c =
-    openedOf-checked (c .before .before .before .before .before .args .bytes .now) _
-    (c .before .before .before .check-placement .ensures) (c .before .answer2 .given .1)
+returns-2 c = openedOf-checked _ _ (c .before .before .before .check-placement .ensures) (c .before .answer2 .given .1)
 
 pub opened-spec : {M : Type 1} → statement M
 opened-spec =

@@ -1,16 +1,16 @@
 -- `crowding_code::least::least_crowded` meets its contract: the rows' nodes are the first level. Assumes nothing.
-use Prim.Native.Nat.{suc}
-use mathlib.Core.Path.{refl, _∙_}
-use native.Mathlib.Nat.{mul-le-mul}
-use Rattle.lists.proofs.Largest.{largest-le}
-use Rattle.packing.specs.Rows.{rowsAt}
-use Rattle.crowding.specs.Tails.{rowTails}
-use Rattle.crowding.proofs.Follow.{at-most-zero}
-use Rattle.crowding.proofs.Visits.{grown-lowest}
-use native.Mathlib.Omega.{arith}
+use Rattle.crowding.proofs.VisitRows.{root-to-link, root-to-visit, root-visited}
 use borrow.Author.Needs.{needs}
 use Rattle.crowding_code.proofs.least.least_crowded.Statement.{statement}
 use Rattle.crowding_code.proofs.least.least_crowded.Tie as tie
+
+-- what the call was given
+abbrev start : tie.After-link-rows → tie.Start
+start c = c .before .before .before .before .before
+
+-- where the rows are linked
+abbrev linked : tie.After-highest → tie.After-link-rows
+linked c = c .before .before .before .before
 
 slice-aggregate-link-rows : tie.Need-slice-aggregate-link-rows
 slice-aggregate-link-rows c = search needs
@@ -18,21 +18,14 @@ slice-aggregate-link-rows c = search needs
 slice-aggregate-link-rows-2 : tie.Need-slice-aggregate-link-rows-2
 slice-aggregate-link-rows-2 c = search needs
 
+slice-aggregate-link-rows-3 : tie.Need-slice-aggregate-link-rows-3
+slice-aggregate-link-rows-3 c = search needs
+
 link-rows-requires : tie.Need-link-rows-requires
-link-rows-requires c κs =
-    let g = c .before .before .before .before .before .args in
-    let pre = c .before .before .before .before .before .pre in
-    let five = mul-le-mul {n₁ = g .c} {m₁ = g .r} {n₂ = 4096} {m₂ = 5} (pre .0 .0) (pre .0 .1) in
-    ((pre .0 .2, pre .0 .1, pre .0 .0, pre .0 .3, omega (arith, five, pre .0)), ((refl, refl, at-most-zero 256), pre .1))
+link-rows-requires c κs = root-to-link (c .before .before .before .before .pre)
 
 highest-requires : tie.Need-highest-requires
 highest-requires c κs = search needs
-
-cast-high : tie.Need-cast-high
-cast-high c = search needs
-
-add-high : tie.Need-add-high
-add-high c = search needs
 
 slice-aggregate-children : tie.Need-slice-aggregate-children
 slice-aggregate-children c = search needs
@@ -40,44 +33,23 @@ slice-aggregate-children c = search needs
 slice-aggregate-children-2 : tie.Need-slice-aggregate-children-2
 slice-aggregate-children-2 c = search needs
 
+slice-aggregate-children-3 : tie.Need-slice-aggregate-children-3
+slice-aggregate-children-3 c = search needs
+
 children-requires : tie.Need-children-requires
 children-requires c κs =
-    let g = c .before .before .before .before .before .before .before .before .before .before .before .before .before .before .args in
-    let pre = c .before .before .before .before .before .before .before .before .before .before .before .before .before .before .pre in
-    let five = mul-le-mul {n₁ = g .c} {m₁ = g .r} {n₂ = 4096} {m₂ = 5} (pre .0 .0) (pre .0 .1) in
-    let high = c .before .before .before .highest .ensures in
-    let linked = c .before .before .before .before .before .before .before .before .link-rows in
-    let heads = linked .last .1 .1 .1 .1 .0 in
-    let counts = linked .last .1 .1 .1 .1 .1 .0 in
-    let next = linked .last .1 .1 .1 .1 .1 .1 .0 in (
-      (pre .0 .2, pre .0 .1, omega (arith, five, pre .0, linked .kept .1 .1 .1 .1 .1 .1 .0), omega (arith, five, pre .0)),
-      (
-        (linked .kept .1 .1 .1 .1 .0, linked .kept .1 .1 .1 .1 .1 .0, λ v. omega (arith, linked .ensures .1 .1 v, pre .0)),
-        (
-          (
-            omega (arith, c .before .before .before .highest .ok),
-            λ p lt. omega (arith, largest-le (g .rows .now) p, high),
-            omega arith,
-            λ u lt. absurd (omega (arith, lt)),
-          ),
-          (pre .1, linked .ensures .1 .0),
-        ),
-      ),
-    )
-
-same-length : tie.Need-same-length
-same-length c = search needs
+    let looked = c .before .before .before in
+    let s = start (linked looked) in
+    let called = linked looked .link-rows in
+    let lengths = called .kept .1 .1 .1 in
+    root-to-visit (s .pre) (called .ensures) (s .args .bound) (looked .highest .result) (looked .highest .ensures) (lengths .0)
+    (lengths .1 .0) (lengths .1 .1 .0)
 
 returns : tie.Need-returns
 returns c =
-    let g = c .before .before .before .before .before .before .before .before .before .before .before .before .before .before .before .before .before .args in
-    let linked = c .before .before .before .before .before .before .before .before .before .before .before .link-rows in
-    let heads = linked .last .1 .1 .1 .1 .0 in
-    let counts = linked .last .1 .1 .1 .1 .1 .0 in
-    let next = linked .last .1 .1 .1 .1 .1 .1 .0 in
-    c .before .before .children .ensures .0
-    ∙ grown-lowest (suc (g .x)) (g .x) (g .bound) (g .r) (g .rows .now) heads counts next
-    (rowTails 0 (rowsAt (g .r) (g .c) (g .rows .now))) 65536 refl (linked .ensures .0)
+    let found = c .before in
+    let rows = linked (found .before .before .before .before) in
+    root-visited (start rows .pre) (rows .link-rows .ensures) (found .children .ensures)
 
 pub least-crowded-spec : {M : Type 1} → statement M
 least-crowded-spec =
@@ -85,12 +57,11 @@ least-crowded-spec =
     (tie.spec
     slice-aggregate-link-rows
     slice-aggregate-link-rows-2
+    slice-aggregate-link-rows-3
     link-rows-requires
     highest-requires
-    cast-high
-    add-high
     slice-aggregate-children
     slice-aggregate-children-2
+    slice-aggregate-children-3
     children-requires
-    same-length
     returns)

@@ -5,37 +5,37 @@ use mathlib.Core.Logic.{⊎-elim}
 use lib.ListN.{getD}
 use borrow.Author.Needs.{needs}
 use borrow.Author.Tests.{ltb-true, ltb-false}
-use Rattle.number_code.proofs.reader.ReadLoop.{Turn, TurnFits, turn-holds, turn-none, turn-ends, turn-zero-last, turn-last, turn-again, turn-fits}
+use Rattle.number_code.proofs.reader.ReadLoop.{ReadTurn, ReadFits, read-holds, read-none, read-ends, read-zero-last, read-last, read-again, read-fits}
 use Rattle.number_code.proofs.reader.read_number.Statement.{statement}
 use Rattle.number_code.proofs.reader.read_number.Tie as tie
 
 abbrev Inv-loop : tie.InvT-loop
-Inv-loop bytes at left₀ place₀ weight₀ sum₀ left place weight sum = Turn bytes at left place weight sum
+Inv-loop bytes at left₀ place₀ weight₀ sum₀ left place weight sum = ReadTurn bytes at left place weight sum
 
 abbrev μ-loop : tie.MeasureT-loop
 μ-loop bytes at left₀ place₀ weight₀ sum₀ left place weight sum = left
 
 last-fits : (c : tie.Joined3 Inv-loop μ-loop)
     → let l = c .before .before .before .before .before .loop in
-    TurnFits (l .weight) (getD (c .before .before .before .before .before .before .args .bytes .now) (l .place) 0)
+    ReadFits (l .weight) (getD (c .before .before .before .before .before .before .args .bytes .now) (l .place) 0)
 last-fits c =
     let l = c .before .before .before .before .before .loop in
-    turn-fits _ _ _ _ _ _ (l .inv) (omega arith) _
+    read-fits (l .inv) (omega arith) _
     (c .before .before .shared-slice-known .given (l .place) .fits)
 
 more-fits : (c : tie.Else2 Inv-loop μ-loop)
     → let l = c .before .before .before .before .loop in
-    TurnFits (l .weight) (getD (c .before .before .before .before .before .args .bytes .now) (l .place) 0)
+    ReadFits (l .weight) (getD (c .before .before .before .before .before .args .bytes .now) (l .place) 0)
 more-fits c =
     let l = c .before .before .before .before .loop in
-    turn-fits _ _ _ _ _ _ (l .inv) (omega arith) _
+    read-fits (l .inv) (omega arith) _
     (c .before .shared-slice-known .given (l .place) .fits)
 
 loop-holds : tie.Need-loop-holds Inv-loop μ-loop
-loop-holds c = turn-holds _ _
+loop-holds c = read-holds _ _
 
 returns : tie.Need-returns Inv-loop μ-loop
-returns c = turn-ends _ _ _ _ _ _ (c .before .before .loop .inv) (omega arith) (omega arith)
+returns c = read-ends (c .before .before .loop .inv) (omega arith) (omega arith)
 
 shared-slice-read-byte : tie.Need-shared-slice-read-byte Inv-loop μ-loop
 shared-slice-read-byte c = search needs
@@ -46,7 +46,7 @@ cast-byte c = omega (arith, c .shared-slice-known .given (c .before .before .bef
 returns-2 : tie.Need-returns-2 Inv-loop μ-loop
 returns-2 c =
     let l = c .before .before .before .before .before .before .loop in
-    turn-zero-last _ _ _ _ _ _ (l .inv) (omega arith) (omega arith) (omega arith)
+    read-zero-last (l .inv) (omega arith) (omega arith) (omega arith)
     (omega (arith, ltb-true))
 
 mul-t17 : tie.Need-mul-t17 Inv-loop μ-loop
@@ -61,7 +61,7 @@ add-t19 c = search needs
 returns-3 : tie.Need-returns-3 Inv-loop μ-loop
 returns-3 c =
     let l = c .before .before .before .before .before .loop in
-    turn-last _ _ _ _ _ _ (l .inv) (omega arith) (omega arith) (omega arith)
+    read-last (l .inv) (omega arith) (omega arith) (omega arith)
     (⊎-elim (λ w. omega (arith, ltb-false)) (λ w. omega arith) (c .if3 .came))
 
 mul-sum : tie.Need-mul-sum Inv-loop μ-loop
@@ -85,11 +85,11 @@ loop-less c = search needs
 loop-again : tie.Need-loop-again Inv-loop μ-loop
 loop-again c =
     let l = c .before .before .before .before .loop in
-    turn-again _ _ _ _ _ _ (l .inv) (omega arith) (omega arith) (omega arith)
+    read-again (l .inv) (omega arith) (omega arith) (omega arith)
     (c .before .shared-slice-known .given (l .place) .fits)
 
 returns-4 : tie.Need-returns-4 Inv-loop μ-loop
-returns-4 c = turn-none _ _ _ _ _ _ (c .before .loop .inv) (omega arith)
+returns-4 c = read-none (c .before .loop .inv) (omega arith)
 
 pub read-number-spec : {M : Type 1} → statement M
 read-number-spec =

@@ -1,7 +1,7 @@
 -- `number_code::writer::form_length` meets its contract: one group holds 128 numbers, two 16,384, three 2,097,152. Assumes nothing.
 use mathlib.Core.Path.{sym}
 use native.Mathlib.Omega.{arith}
-use Rattle.number.proofs.Reading.{numberBytes-length-one}
+use Rattle.number.proofs.Laws.{numberBytes-length-one}
 use Rattle.number.proofs.Writing.{numberBytes-length, numberBytes-length-four}
 use Rattle.number_code.proofs.writer.form_length.Statement.{statement}
 use Rattle.number_code.proofs.writer.form_length.Tie as tie

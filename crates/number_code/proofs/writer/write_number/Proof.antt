@@ -4,12 +4,13 @@ use native.Mathlib.Omega.{arith}
 use mathlib.Core.Path.{_∙_}
 use lib.ListN.{length-set}
 use borrow.Author.Needs.{needs}
-use Rattle.number.proofs.Writing.{Turn, answers-large, answers-short, answers-written, turn-holds, turn-inside, turn-again, turn-last}
+use Rattle.number.proofs.Writing.{answers-large, answers-short, answers-written}
+use Rattle.number_code.proofs.writer.WriteLoop.{WriteTurn, write-holds, write-inside, write-again, write-last}
 use Rattle.number_code.proofs.writer.write_number.Statement.{statement}
 use Rattle.number_code.proofs.writer.write_number.Tie as tie
 
 abbrev Inv-loop : tie.InvT-loop
-Inv-loop out₀ v need rest₀ i₀ out rest i = Turn v out₀ out rest i
+Inv-loop out₀ v need rest₀ i₀ out rest i = WriteTurn v out₀ out rest i
 
 abbrev μ-loop : tie.MeasureT-loop
 μ-loop out₀ v need rest₀ i₀ out rest i = rest
@@ -24,7 +25,7 @@ returns-2 : tie.Need-returns-2 Inv-loop μ-loop
 returns-2 c = answers-short _ _ _ (c .before .form-length .ensures) (omega arith) (omega arith)
 
 loop-holds : tie.Need-loop-holds Inv-loop μ-loop
-loop-holds c = turn-holds _ _ (omega arith) (omega arith)
+loop-holds c = write-holds _ _ (omega arith) (omega arith)
 
 add-out : tie.Need-add-out Inv-loop μ-loop
 add-out c = search needs
@@ -33,13 +34,13 @@ cast-out : tie.Need-cast-out Inv-loop μ-loop
 cast-out c = search needs
 
 slice-write-out : tie.Need-slice-write-out Inv-loop μ-loop
-slice-write-out c = turn-inside _ _ _ _ _ (c .before .loop .inv)
+slice-write-out c = write-inside (c .before .loop .inv)
 
 add-i : tie.Need-add-i Inv-loop μ-loop
 add-i c =
     omega (
       arith,
-      turn-inside _ _ _ _ _ (c .before .loop .inv),
+      write-inside (c .before .loop .inv),
       c .before .loop .inv .same-length,
       c .before .before .before .before .before .before .good .0 .0,
     )
@@ -48,13 +49,13 @@ loop-less : tie.Need-loop-less Inv-loop μ-loop
 loop-less c = omega arith
 
 loop-again : tie.Need-loop-again Inv-loop μ-loop
-loop-again c = turn-again _ _ _ _ _ (c .before .loop .inv) (omega arith)
+loop-again c = write-again (c .before .loop .inv) (omega arith)
 
 cast-out-2 : tie.Need-cast-out-2 Inv-loop μ-loop
 cast-out-2 c = search needs
 
 slice-write-out-2 : tie.Need-slice-write-out-2 Inv-loop μ-loop
-slice-write-out-2 c = turn-inside _ _ _ _ _ (c .before .loop .inv)
+slice-write-out-2 c = write-inside (c .before .loop .inv)
 
 same-length : tie.Need-same-length Inv-loop μ-loop
 same-length c = length-set (c .before .loop .out) _ _ ∙ c .before .loop .inv .same-length
@@ -62,7 +63,7 @@ same-length c = length-set (c .before .loop .out) _ _ ∙ c .before .loop .inv .
 returns-3 : tie.Need-returns-3 Inv-loop μ-loop
 returns-3 c =
     answers-written _ _ _ (c .before .before .before .form-length .ensures) (omega arith) _
-    (omega arith) (turn-last _ _ _ _ _ (c .before .loop .inv) (omega arith))
+    (omega arith) (write-last (c .before .loop .inv) (omega arith))
 
 pub write-number-spec : {M : Type 1} → statement M
 write-number-spec =

@@ -1,11 +1,11 @@
 -- `planner_writer::head::write_head` meets its contract: the first numbers of the head's array are written. Assumes nothing.
+use Prim.Native.Nat.{ℕ, _+_, _*_, _-_}
 use mathlib.Core.Path.{_≡_, _∙_, ap}
 use mathlib.Core.List.{List}
-use Prim.Native.Nat.{ℕ, _+_, _*_, _-_}
 use lib.ListN.{take, drop}
 use borrow.Author.Needs.{needs}
-use Rattle.planner.specs.Writing.{headList}
-use Rattle.planner.proofs.Committed.{head-taken}
+use Rattle.planner.specs.Writing.{writtenNumbers}
+use Rattle.planner_writer.proofs.head.Numbers.{head-taken}
 use Rattle.planner_writer.proofs.head.write_head.Statement.{statement}
 use Rattle.planner_writer.proofs.head.write_head.Tie as tie
 
@@ -30,25 +30,23 @@ part-write-numbers-end c = search needs
 -- the numbers that are lent
 lent : (c : tie.After-head-numbers)
     → let a = c .before .before .args in
-    take (7 + 2 * a .s - 0) (drop 0 (c .head-numbers .result)) ≡ headList (a .n) (a .r) (a .s) (a .k) (a .b) (a .figure) (a .lambda) (a .c)
+    take (7 + 2 * a .order .s - 0) (drop 0 (c .head-numbers .result))
+    ≡ writtenNumbers (a .base) (a .order) (a .figure) (take (a .order .s) (a .heads))
 lent c =
-    let s = c .before .before in
-    let a = s .args in
-    ap (λ (head : List ℕ). take (7 + 2 * a .s - 0) (drop 0 head)) (c .head-numbers .ensures)
-    ∙ head-taken (a .n) (a .r) (a .s) (a .k) (a .b) (a .figure) (a .lambda) (a .c) (s .pre .0)
+    let a = c .before .before .args in
+    ap (λ (head : List ℕ). take (7 + 2 * a .order .s - 0) (drop 0 head)) (c .head-numbers .ensures)
+    ∙ head-taken (a .base) (a .order) (a .figure) (a .heads) (a .order .s)
 
 write-numbers-requires : tie.Need-write-numbers-requires
 write-numbers-requires c κs =
-    let s = c .before .before .before .before .before in
-    rw (lent (c .before .before .before)) (s .pre .1)
+    rw (lent (c .before .before .before)) (c .before .before .before .before .before .pre .1)
 
 same-length : tie.Need-same-length
 same-length c = search needs
 
 returns : tie.Need-returns
 returns c =
-    let w = c .before .before .write-numbers in
-    rw (lent (c .before .before .before .before .before .before)) at (w .ensures)
+    rw (lent (c .before .before .before .before .before .before)) at (c .before .before .write-numbers .ensures)
 
 pub write-head-spec : {M : Type 1} → statement M
 write-head-spec =

@@ -1,8 +1,6 @@
 -- `report_check::line::check_line` meets its contract: the line of the refusal, or of the numbers that the placement's check
 -- accepts. Assumes nothing.
-use Prim.Native.Nat.{_<_}
 use native.Mathlib.Omega.{arith}
-use Rattle.lists.proofs.Alls.{getD-all}
 use Rattle.report_check.proofs.line.Accepted.{LineOf, line-of-check, refused-of-check}
 use borrow.Author.Needs.{needs}
 use Rattle.report_check.proofs.line.check_line.Statement.{statement}
@@ -21,15 +19,8 @@ enum-known-answer-2 : tie.Need-enum-known-answer-2
 enum-known-answer-2 c = search needs
 
 -- what is known of an accepted input
-known : (c : tie.After-answer2)
-    → let a = c .answer2 .given .0 in
-    LineOf (c .before .before .before .before .before .args .input .now) (a .0) (a .1 .0) (a .1 .1 .1 .0) (a .1 .1 .1 .1 .0)
-    (a .1 .1 .1 .1 .1 .0) (a .1 .1 .1 .1 .1 .1 .0)
-known c =
-    let input = c .before .before .before .before .before .args .input .now in
-    line-of-check input _
-    (getD-all (λ byte. byte < 256) 0 input (λ i lt. c .before .before .before .before .shared-slice-known .given i .fits))
-    (c .before .before .check-placement .ensures) (c .answer2 .given .1)
+known : (c : tie.After-answer2) → LineOf (c .before .before .before .before .before .args .input .now) (c .answer2 .given .0 .0)
+known c = line-of-check _ _ (c .before .before .check-placement .ensures) (c .answer2 .given .1)
 
 sub-most-load : tie.Need-sub-most-load
 sub-most-load c = known (c .before) .inside
@@ -67,9 +58,10 @@ same-length-2 c = search needs
 
 returns-2 : tie.Need-returns-2
 returns-2 c =
-    let k = known (c .before .before .before .before .before .before .before .before) in
-    rw (k .line, ← c .before .before .before .before .before .most-load .ensures, ← c .before .before .before .before .mean-load .ensures)
-    (c .before .before .accepted-line .ensures)
+    let p = c .before .before in
+    let q = p .before .before in
+    rw (known (q .before .before .before .before) .line, ← q .before .most-load .ensures, ← q .mean-load .ensures)
+    (p .accepted-line .ensures)
 
 pub check-line-spec : {M : Type 1} → statement M
 check-line-spec =

@@ -24,119 +24,79 @@ abbrev put-decimal-below : ℕ → In 1 put-decimal-kinds.ps
 put-decimal-below t =
     and 1 put-decimal-kinds.ps (falls 1 put-decimal-kinds.ps _<_ μ-put-decimal t) put-decimal.Pre
 
-put-decimal-add-out : (t : ℕ) → put-decimal-lts.Need-add-out (
-  put-decimal-below t,
-  put-decimal.Post,
-) (put-decimal-at t) put-decimal.Post
-put-decimal-add-out t c = search needs
+abbrev callees : ℕ → put-decimal-lts.Claims
+callees t = (put-decimal-below t, put-decimal.Post)
 
-put-decimal-cast-out : (t : ℕ) → put-decimal-lts.Need-cast-out (
-  put-decimal-below t,
-  put-decimal.Post,
-) (put-decimal-at t) put-decimal.Post
-put-decimal-cast-out t c = search needs
+add-out : (t : ℕ) → put-decimal-lts.Need-add-out (callees t) (put-decimal-at t) put-decimal.Post
+add-out t c = search needs
 
-put-decimal-slice-write-out : (t : ℕ) → put-decimal-lts.Need-slice-write-out (
-  put-decimal-below t,
-  put-decimal.Post,
-) (put-decimal-at t) put-decimal.Post
-put-decimal-slice-write-out t c =
+cast-out : (t : ℕ) → put-decimal-lts.Need-cast-out (callees t) (put-decimal-at t) put-decimal.Post
+cast-out t c = search needs
+
+slice-write-out : (t : ℕ) → put-decimal-lts.Need-slice-write-out (callees t) (put-decimal-at t) put-decimal.Post
+slice-write-out t c =
     let a = c .before .before .args in
     omega (arith, c .before .before .pre .1, ap length (decimal-small (a .n) (c .if1 .taken)))
 
-put-decimal-add-result : (t : ℕ) → put-decimal-lts.Need-add-result (
-  put-decimal-below t,
-  put-decimal.Post,
-) (put-decimal-at t) put-decimal.Post
-put-decimal-add-result t c = omega (arith, c .before .before .good .0 .0, put-decimal-slice-write-out t c)
+add-result : (t : ℕ) → put-decimal-lts.Need-add-result (callees t) (put-decimal-at t) put-decimal.Post
+add-result t c = omega (arith, c .before .before .good .0 .0, slice-write-out t c)
 
-put-decimal-same-length : (t : ℕ) → put-decimal-lts.Need-same-length (
-  put-decimal-below t,
-  put-decimal.Post,
-) (put-decimal-at t) put-decimal.Post
-put-decimal-same-length t c = search needs
+same-length : (t : ℕ) → put-decimal-lts.Need-same-length (callees t) (put-decimal-at t) put-decimal.Post
+same-length t c = search needs
 
-put-decimal-returns : (t : ℕ) → put-decimal-lts.Need-returns (
-  put-decimal-below t,
-  put-decimal.Post,
-) (put-decimal-at t) put-decimal.Post
-put-decimal-returns t c = put-small _ _ _ (c .if1 .taken)
+returns : (t : ℕ) → put-decimal-lts.Need-returns (callees t) (put-decimal-at t) put-decimal.Post
+returns t c = put-small _ _ _ (c .if1 .taken)
 
-put-decimal-put-decimal-requires : (t : ℕ) → put-decimal-lts.Need-put-decimal-requires (
-  put-decimal-below t,
-  put-decimal.Post,
-) (put-decimal-at t) put-decimal.Post
-put-decimal-put-decimal-requires t c κs =
+put-decimal-requires : (t : ℕ) → put-decimal-lts.Need-put-decimal-requires (callees t) (put-decimal-at t) put-decimal.Post
+put-decimal-requires t c κs =
     let s = c .before .before .before in
     let large = c .before .if1 .left in (
       omega (arith, s .pre .0),
       omega (arith, s .pre .1, decimal-length-large (s .args .n) large (s .fits .n .fits)),
     )
 
-put-decimal-add-out-2 : (t : ℕ) → put-decimal-lts.Need-add-out-2 (
-  put-decimal-below t,
-  put-decimal.Post,
-) (put-decimal-at t) put-decimal.Post
-put-decimal-add-out-2 t c = search needs
+add-out-2 : (t : ℕ) → put-decimal-lts.Need-add-out-2 (callees t) (put-decimal-at t) put-decimal.Post
+add-out-2 t c = search needs
 
-put-decimal-cast-out-2 : (t : ℕ) → put-decimal-lts.Need-cast-out-2 (
-  put-decimal-below t,
-  put-decimal.Post,
-) (put-decimal-at t) put-decimal.Post
-put-decimal-cast-out-2 t c = search needs
+cast-out-2 : (t : ℕ) → put-decimal-lts.Need-cast-out-2 (callees t) (put-decimal-at t) put-decimal.Post
+cast-out-2 t c = search needs
 
-put-decimal-slice-write-out-2 : (t : ℕ) → put-decimal-lts.Need-slice-write-out-2 (
-  put-decimal-below t,
-  put-decimal.Post,
-) (put-decimal-at t) put-decimal.Post
-put-decimal-slice-write-out-2 t c =
-    let a = c .before .before .before .before .before .before .args in
-    let s = c .before .before .before .before .before .before in
+slice-write-out-2 : (t : ℕ) → put-decimal-lts.Need-slice-write-out-2 (callees t) (put-decimal-at t) put-decimal.Post
+slice-write-out-2 t c =
+    let p = c .before .before in
+    let s = p .before .before .before .before in
     omega (
       arith,
       s .pre .1,
-      c .before .before .put-decimal .kept .0,
-      c .before .before .put-decimal .ensures .0,
-      decimal-length-large (a .n) (c .before .before .before .before .if1 .left) (s .fits .n .fits),
+      p .put-decimal .kept .0,
+      p .put-decimal .ensures .ends,
+      decimal-length-large (s .args .n) (p .before .before .if1 .left) (s .fits .n .fits),
     )
 
-put-decimal-add-result-2 : (t : ℕ) → put-decimal-lts.Need-add-result-2 (
-  put-decimal-below t,
-  put-decimal.Post,
-) (put-decimal-at t) put-decimal.Post
-put-decimal-add-result-2 t c = omega (arith, c .before .before .before .before .before .before .good .0 .0, put-decimal-slice-write-out-2 t c)
+add-result-2 : (t : ℕ) → put-decimal-lts.Need-add-result-2 (callees t) (put-decimal-at t) put-decimal.Post
+add-result-2 t c = omega (arith, c .before .before .before .before .before .before .good .0 .0, slice-write-out-2 t c)
 
-put-decimal-same-length-2 : (t : ℕ) → put-decimal-lts.Need-same-length-2 (
-  put-decimal-below t,
-  put-decimal.Post,
-) (put-decimal-at t) put-decimal.Post
-put-decimal-same-length-2 t c = length-set (c .before .before .put-decimal .last .0) _ _ ∙ c .before .before .put-decimal .kept .0
+same-length-2 : (t : ℕ) → put-decimal-lts.Need-same-length-2 (callees t) (put-decimal-at t) put-decimal.Post
+same-length-2 t c = length-set (c .before .before .put-decimal .last .0) _ _ ∙ c .before .before .put-decimal .kept .0
 
-put-decimal-returns-2 : (t : ℕ) → put-decimal-lts.Need-returns-2 (
-  put-decimal-below t,
-  put-decimal.Post,
-) (put-decimal-at t) put-decimal.Post
-put-decimal-returns-2 t c =
-    let s = c .before .before .before .before .before .before in
-    put-large _ _ _ _ _ (c .before .before .before .before .if1 .left) (s .fits .n .fits) (c .before .before .put-decimal .ensures)
+returns-2 : (t : ℕ) → put-decimal-lts.Need-returns-2 (callees t) (put-decimal-at t) put-decimal.Post
+returns-2 t c =
+    let p = c .before .before in
+    let s = p .before .before .before .before in
+    put-large _ _ _ _ _ (p .before .before .if1 .left) (s .fits .n .fits) (p .put-decimal .ensures)
 
 pub +put-decimal-spec : {M : Type 1} → statement M
-+put-decimal-spec = close μ-put-decimal λ t. put-decimal-lts.spec (
-  put-decimal-below t,
-  put-decimal.Post,
-)
-    (put-decimal-at t)
-    put-decimal.Post
-    (put-decimal-add-out t)
-    (put-decimal-cast-out t)
-    (put-decimal-slice-write-out t)
-    (put-decimal-add-result t)
-    (put-decimal-same-length t)
-    (put-decimal-returns t)
-    (put-decimal-put-decimal-requires t)
-    (put-decimal-add-out-2 t)
-    (put-decimal-cast-out-2 t)
-    (put-decimal-slice-write-out-2 t)
-    (put-decimal-add-result-2 t)
-    (put-decimal-same-length-2 t)
-    (put-decimal-returns-2 t)
++put-decimal-spec = close μ-put-decimal λ t. put-decimal-lts.spec (callees t) (put-decimal-at t) put-decimal.Post
+    (add-out t)
+    (cast-out t)
+    (slice-write-out t)
+    (add-result t)
+    (same-length t)
+    (returns t)
+    (put-decimal-requires t)
+    (add-out-2 t)
+    (cast-out-2 t)
+    (slice-write-out-2 t)
+    (add-result-2 t)
+    (same-length-2 t)
+    (returns-2 t)

@@ -4,7 +4,7 @@ use Prim.Native.Nat.{_-_}
 use native.Mathlib.Omega.{arith}
 use mathlib.Core.Path.{_∙_}
 use lib.ListN.{length, length-set}
-use Rattle.report_lines.proofs.numbers.Lines.{Turn, turn-holds, turn-last, turn-last-inside, turn-room, turn-again}
+use Rattle.report_lines.proofs.numbers.Turns.{Turn, turn-holds, turn-last, turn-last-inside, turn-room, turn-again}
 use borrow.Author.Needs.{needs}
 use Rattle.report_lines.proofs.numbers.put_rest.Statement.{statement}
 use Rattle.report_lines.proofs.numbers.put_rest.Tie as tie

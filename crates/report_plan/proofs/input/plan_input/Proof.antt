@@ -14,11 +14,11 @@ enum-known-e c = search needs
 refused-line-requires : tie.Need-refused-line-requires
 refused-line-requires c κs = search needs
 
-enum-known-s : tie.Need-enum-known-s
-enum-known-s c = search needs
+enum-known-read : tie.Need-enum-known-read
+enum-known-read c = search needs
 
 sub-planned-reply : tie.Need-sub-planned-reply
-sub-planned-reply c = order-inside _ _ (c .before .before .before .read-order .ensures) (c .before .s .given .1)
+sub-planned-reply c = let m = c .before .before in order-inside _ _ (m .before .before .read-order .ensures) (m .read .given .1)
 
 part-planned-reply-start : tie.Need-part-planned-reply-start
 part-planned-reply-start c = sub-planned-reply c
@@ -34,8 +34,9 @@ same-length c = search needs
 
 returns : tie.Need-returns
 returns c =
-    order-refused _ _ (c .before .before .before .before .before .before .before .read-order .ensures) _
-    (c .before .before .before .before .before .e .given .1) (c .before .before .refused-line .ensures)
+    let l = c .before .before in
+    let m = l .before .before .before in
+    order-refused _ _ (m .before .before .read-order .ensures) _ (m .e .given .1) (l .refused-line .ensures)
 
 same-length-2 : tie.Need-same-length-2
 same-length-2 c = search needs
@@ -46,9 +47,10 @@ same-length-3 c = search needs
 returns-2 : tie.Need-returns-2
 returns-2 c =
     let p = c .before .before .before .before in
-    let m = p .before .before .before .before .before in
-    order-planned _ _ (m .before .before .read-order .ensures) (m .s .given .1) _ _ (p .planned-reply .ensures .0)
-    (p .planned-reply .ensures .1)
+    let m = p .before .before .before .before .before .before in
+    let s = m .before .before .before .before .before .before in
+    order-planned _ _ (m .before .before .read-order .ensures) (m .read .given .1) _ _ _ _ (s .pre .0) (s .pre .1)
+    (p .planned-reply .ensures .0) (p .planned-reply .ensures .1)
 
 pub plan-input-spec : {M : Type 1} → statement M
 plan-input-spec =
@@ -57,7 +59,7 @@ plan-input-spec =
     read-order-requires
     enum-known-e
     refused-line-requires
-    enum-known-s
+    enum-known-read
     sub-planned-reply
     part-planned-reply-start
     part-planned-reply-end

@@ -11,18 +11,15 @@ use Rattle.report_plan.proofs.reader.read_order.Tie as tie
 
 -- the numbers that were read
 s-read : (c : tie.After-s)
-    → readNumber (c .before .before .before .before .args .input .now) 0
-    ≡ accepted (record { value = c .s .given .0 .0; next = c .s .given .0 .1 .0 })
+    → readNumber (c .before .before .before .before .args .input .now) 0 ≡ accepted (c .s .given .0 .0)
 s-read c = numberRead-value _ (sym (c .s .given .1) ∙ c .before .before .read-number .ensures)
 
-k-read : (c : tie.After-k)
-    → readNumber (c .before .before .before .before .before .before .before .before .args .input .now) (c .before .before .before .before .s .given .0 .1 .0)
-    ≡ accepted (record { value = c .k .given .0 .0; next = c .k .given .0 .1 .0 })
+k-read : (c : tie.After-k) → let s = c .before .before .before .before in
+    readNumber (s .before .before .before .before .args .input .now) (s .s .given .0 .0 .next) ≡ accepted (c .k .given .0 .0)
 k-read c = numberRead-value _ (sym (c .k .given .1) ∙ c .before .before .read-number2 .ensures)
 
-b-read : (c : tie.After-b)
-    → readNumber (c .before .before .before .before .before .before .before .before .before .before .before .before .args .input .now) (c .before .before .before .before .k .given .0 .1 .0)
-    ≡ accepted (record { value = c .b .given .0 .0; next = c .b .given .0 .1 .0 })
+b-read : (c : tie.After-b) → let k = c .before .before .before .before in let s = k .before .before .before .before in
+    readNumber (s .before .before .before .before .args .input .now) (k .k .given .0 .0 .next) ≡ accepted (c .b .given .0 .0)
 b-read c = numberRead-value _ (sym (c .b .given .1) ∙ c .before .before .read-number3 .ensures)
 
 read-number-requires : tie.Need-read-number-requires

@@ -7,7 +7,7 @@ use borrow.Author.Needs.{needs}
 use borrow.Author.Tests.{not-true, not-false}
 use Rattle.packing.specs.Answers.{rowFound}
 use Rattle.packing.specs.Rows.{rowsAt, firstBad}
-use Rattle.packing.proofs.Places.{row-end-le}
+use Rattle.lists.proofs.Arith.{run-end-le}
 use Rattle.rows_code.proofs.order.FirstBad.{badFrom, bad-from-start, bad-of-end, bad-of-here, bad-of-next}
 use Rattle.rows_code.proofs.order.first_bad.Statement.{statement}
 use Rattle.rows_code.proofs.order.first_bad.Tie as tie
@@ -25,7 +25,7 @@ loop-holds c =
     (search needs, omega arith, sym (bad-from-start (a .n) (a .r) (a .c) (a .rows .now)))
 
 add-end : tie.Need-add-end Inv-loop μ-loop
-add-end c = omega (arith, row-end-le (c .before .before .before .args .r) (c .loop-test .taken))
+add-end c = omega (arith, run-end-le (c .before .before .before .args .r) (c .loop-test .taken))
 
 sub-row-in-order : tie.Need-sub-row-in-order Inv-loop μ-loop
 sub-row-in-order c = search needs
@@ -34,7 +34,7 @@ part-row-in-order-start : tie.Need-part-row-in-order-start Inv-loop μ-loop
 part-row-in-order-start c = search needs
 
 part-row-in-order-end : tie.Need-part-row-in-order-end Inv-loop μ-loop
-part-row-in-order-end c = omega (arith, row-end-le (c .before .before .before .args .r) (c .loop-test .taken))
+part-row-in-order-end c = omega (arith, run-end-le (c .before .before .before .args .r) (c .loop-test .taken))
 
 row-in-order-requires : tie.Need-row-in-order-requires Inv-loop μ-loop
 row-in-order-requires c κs = search needs

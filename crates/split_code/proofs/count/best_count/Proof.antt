@@ -1,10 +1,10 @@
 -- `split_code::count::best_count` meets its contract. The loop's invariant: the counts up to `c` were looked at. Assumes nothing.
-use Prim.Native.Nat.{_+_, _*_, _-_, _≤_}
+use Prim.Native.Nat.{_+_, _*_, _-_, _^_, _≤_, _<_}
 use native.Mathlib.Nat.{le-mul-of-pos-right}
 use mathlib.Core.Path.{_≡_, refl, ap, _∙_}
 use lib.ListN.{getD}
-use Rattle.split.specs.Splits.{lastLeast}
-use Rattle.split.specs.Table.{stepSum}
+use Rattle.split.specs.Splits.{noSplit, lastLeast}
+use Rattle.split.specs.Table.{sumAt, stepLoss}
 use Rattle.split.proofs.LayerSteps.{copies-lt, records-lt}
 use Rattle.split_code.proofs.count.Counting.{Counted, counted-none, counted-more, counted-taken, counted-left}
 use native.Mathlib.Omega.{arith}
@@ -19,6 +19,10 @@ abbrev μ-loop : tie.MeasureT-loop
 μ-loop below left size each copy lost best₀ least₀ copies₀ paid₀ c₀ best least copies paid c =
     left - c + (left - copies)
 
+-- where the function starts, as a turn of the loop sees it
+abbrev start : tie.In-loop Inv-loop μ-loop → tie.Start Inv-loop μ-loop
+start c = c .before .before .before .before
+
 mul-least : tie.Need-mul-least Inv-loop μ-loop
 mul-least c = omega arith
 
@@ -26,50 +30,47 @@ shared-slice-read-least : tie.Need-shared-slice-read-least Inv-loop μ-loop
 shared-slice-read-least c = omega arith
 
 cast-least : tie.Need-cast-least Inv-loop μ-loop
-cast-least c = let s = c .before .before in let h = s .pre .1 .marked (s .args .left) in omega arith
+cast-least c = let s = c .before .before in let h = s .pre .rising .marked (s .args .left) in omega arith
 
 loop-holds : tie.Need-loop-holds Inv-loop μ-loop
-loop-holds c = let s = c .before .before in counted-none (s .args .u) (s .args .below .now) (s .args .left) _ refl
+loop-holds c = counted-none refl
 
 mul-if1 : tie.Need-mul-if1 Inv-loop μ-loop
-mul-if1 c =
-    let h = c .before .loop .inv .needed in
-    let g = c .before .before .before .before .pre .0 .size-le in
-    record { fits = omega arith }
+mul-if1 c = let h = c .before .loop .inv .needed in let g = start c .pre .steps .size-le in record { fits = omega arith }
 
 add-copies : tie.Need-add-copies Inv-loop μ-loop
 add-copies c = let h = c .before .before .loop .inv .few in omega arith
 
 mul-paid : tie.Need-mul-paid Inv-loop μ-loop
 mul-paid c =
-    let s = c .before .before .before .before .before in
+    let s = start (c .before) in
     let h = c .before .before .loop .inv .few in
-    record { fits = copies-lt (s .args .u) (s .pre .0) _ (omega arith) }
+    record { fits = copies-lt (s .args .u) (s .pre .steps) _ (omega arith) }
 
 div-paid : tie.Need-div-paid Inv-loop μ-loop
-div-paid c = c .before .before .before .before .before .pre .0 .lost-pos
+div-paid c = start (c .before) .pre .steps .lost-pos
 
 loop-less : tie.Need-loop-less Inv-loop μ-loop
 loop-less c =
-    let s = c .before .before .before .before .before in
+    let s = start (c .before) in
     let l = c .before .before .loop in
-    let h : l .copies ≤ l .copies * s .args .u .size = le-mul-of-pos-right (l .copies) (s .pre .0 .size-pos) in
+    let h : l .copies ≤ l .copies * s .args .u .size = le-mul-of-pos-right (l .copies) (s .pre .steps .size-pos) in
     omega (arith, c .if1 .taken)
 
 loop-again : tie.Need-loop-again Inv-loop μ-loop
 loop-again c =
-    let s = c .before .before .before .before .before in
-    let l = c .before .before .loop in
-    counted-more (s .args .u) (s .args .below .now) (s .args .left) (s .pre .0 .size-pos) (l .best) (l .least) (l .copies)
-    (l .paid) (l .c) (l .inv) (c .before .loop-test .taken) (c .if1 .taken)
+    let t = c .before in
+    counted-more (start t .pre .steps .size-pos) (t .before .loop .inv) (t .loop-test .taken) (c .if1 .taken)
 
 add-c : tie.Need-add-c Inv-loop μ-loop
 add-c c = omega arith
 
+-- in a turn the records cost less than 2^26
+records-small : (c : tie.In-loop Inv-loop μ-loop) → (c .before .loop .c + 1) * start c .args .u .each < 2 ^ 26
+records-small c = let s = start c in records-lt (s .args .u) (s .pre .steps) (c .before .loop .c + 1) (omega arith)
+
 mul-smaller : tie.Need-mul-smaller Inv-loop μ-loop
-mul-smaller c =
-    let s = c .before .before .before .before .before in
-    record { fits = let h = records-lt (s .args .u) (s .pre .0) (c .before .before .loop .c + 1) (omega arith) in omega arith }
+mul-smaller c = record { fits = let h = records-small (c .before) in omega arith }
 
 smaller-requires : tie.Need-smaller-requires Inv-loop μ-loop
 smaller-requires c κs = tt
@@ -83,54 +84,49 @@ mul-loss c = omega arith
 shared-slice-read-loss : tie.Need-shared-slice-read-loss Inv-loop μ-loop
 shared-slice-read-loss c = omega arith
 
+-- and the entry below is not above the mark
+below-small : (c : tie.In-loop Inv-loop μ-loop)
+    → getD (start c .args .below .now) (start c .args .left - (c .before .loop .c + 1)) 0 ≤ noSplit
+below-small c = start c .pre .rising .marked _
+
 cast-loss : tie.Need-cast-loss Inv-loop μ-loop
-cast-loss c =
-    let s = c .before .before .before .before .before .before .before in
-    let h = s .pre .1 .marked (s .args .left - (c .before .before .before .before .loop .c + 1)) in
-    omega arith
+cast-loss c = let h = below-small (c .before .before .before) in omega arith
 
 add-loss : tie.Need-add-loss Inv-loop μ-loop
 add-loss c =
-    let s = c .before .before .before .before .before .before .before in
-    let l = c .before .before .before .before .loop in
-    let h = s .pre .1 .marked (s .args .left - (l .c + 1)) in
-    let g = records-lt (s .args .u) (s .pre .0) (l .c + 1) (omega arith) in
+    let t = c .before .before .before in
+    let h = below-small t in
+    let g = records-small t in
     omega (arith, c .before .smaller .ensures)
 
 loop-less-2 : tie.Need-loop-less-2 Inv-loop μ-loop
 loop-less-2 c = omega arith
 
+-- in a turn that takes no copy, the copies so far hold one record more
+room : (c : tie.Else1 Inv-loop μ-loop) → let l = c .before .before .loop in l .c < l .copies * start (c .before) .args .u .size
+room c = let h = c .before .before .loop .inv .held in omega (arith, c .if1 .left)
+
 loop-again-2 : tie.Need-loop-again-2 Inv-loop μ-loop
 loop-again-2 c =
-    let s = c .before .before .before .before .before .before .before .before in
-    let l = c .before .before .before .before .before .loop in
-    counted-taken (s .args .u) (s .args .below .now) (s .args .left) (s .pre .0 .size-pos) (l .best) (l .least) (l .copies)
-    (l .paid) (l .c) (l .inv) (c .before .before .before .before .loop-test .taken)
-    (c .before .before .smaller .result + getD (s .args .below .now) (s .args .left - (l .c + 1)) 0)
-    (let h = l .inv .held in omega (arith, c .before .before .before .if1 .left))
-    (ap (λ n. n + getD (s .args .below .now) (s .args .left - (l .c + 1)) 0) (c .before .before .smaller .ensures))
-    (omega (arith, c .if2 .taken))
+    let t = c .before .before .before .before in
+    counted-taken (start t .pre .steps .size-pos) (t .before .loop .inv) (t .loop-test .taken) (room (c .before .before .before))
+    (c .before .before .smaller .ensures) (omega (arith, c .if2 .taken))
 
 loop-less-3 : tie.Need-loop-less-3 Inv-loop μ-loop
 loop-less-3 c = omega arith
 
 loop-again-3 : tie.Need-loop-again-3 Inv-loop μ-loop
 loop-again-3 c =
-    let s = c .before .before .before .before .before .before .before .before in
-    let l = c .before .before .before .before .before .loop in
-    counted-left (s .args .u) (s .args .below .now) (s .args .left) (s .pre .0 .size-pos) (l .best) (l .least) (l .copies)
-    (l .paid) (l .c) (l .inv) (c .before .before .before .before .loop-test .taken)
-    (c .before .before .smaller .result + getD (s .args .below .now) (s .args .left - (l .c + 1)) 0)
-    (let h = l .inv .held in omega (arith, c .before .before .before .if1 .left))
-    (ap (λ n. n + getD (s .args .below .now) (s .args .left - (l .c + 1)) 0) (c .before .before .smaller .ensures))
-    (omega (arith, c .if2 .left))
+    let t = c .before .before .before .before in
+    counted-left (start t .pre .steps .size-pos) (t .before .loop .inv) (t .loop-test .taken) (room (c .before .before .before))
+    (c .before .before .smaller .ensures) (omega (arith, c .if2 .left))
 
 returns : tie.Need-returns Inv-loop μ-loop
 returns c =
-    let s = c .before .before .before .before in
+    let a = c .before .before .before .before .args in
     let l = c .before .loop in
-    let e : l .c ≡ s .args .left = let h = l .inv .within in omega arith in
-    l .inv .scan .last-least ∙ ap (lastLeast (stepSum (s .args .u) (s .args .below .now) (s .args .left))) e
+    let e : l .c ≡ a .left = let h = l .inv .within in omega arith in
+    l .inv .scan .last-least ∙ ap (lastLeast (sumAt (stepLoss (a .u)) (a .below .now) (a .left))) e
 
 pub best-count-spec : {M : Type 1} → statement M
 best-count-spec =

@@ -1,29 +1,30 @@
 -- `split_table::raising::raise_by_records` meets its contract. The loop's invariant: the entries before place `i` are written. Assumes nothing.
 use Prim.Native.Nat.{_≤_, _-_, _+_}
-use mathlib.Core.Path.{_≡_, ap, _∙_}
 use lib.ListN.{getD}
 use Rattle.split.specs.Splits.{noSplit}
 use Rattle.split.specs.Table.{stepped}
-use Rattle.split.specs.Working.{part}
-use Rattle.split.proofs.Parts.{putFirst}
-use Rattle.split_table.proofs.raising.Raising.{RaisedByRecords, by-records-none, by-records-le, under-records-le, by-records-next}
+use Rattle.split_table.proofs.raising.Raising.{lineUnder, Raised, raised-none, raised-next, raised-all, records-le, under-le, by-record}
 use native.Mathlib.Omega.{arith}
 use Rattle.split_table.proofs.raising.raise_by_records.Statement.{statement}
 use Rattle.split_table.proofs.raising.raise_by_records.Tie as tie
 
 abbrev Inv-loop : tie.InvT-loop
 Inv-loop work₀ at w each from records₀ i₀ work records i =
-    RaisedByRecords each at w work₀ i records work
+    Raised each at w work₀ (stepped 1 1 each (lineUnder at w work₀)) i records work
 
 abbrev μ-loop : tie.MeasureT-loop
 μ-loop work₀ at w each from records₀ i₀ work records i =
     w - i
 
+-- where the function starts, as a turn of the loop sees it
+abbrev start : tie.In-loop Inv-loop μ-loop → tie.Start Inv-loop μ-loop
+start c = c .before .before .before
+
 sub-from : tie.Need-sub-from Inv-loop μ-loop
-sub-from c = c .before .pre .1
+sub-from c = c .before .pre .1 .back
 
 loop-holds : tie.Need-loop-holds Inv-loop μ-loop
-loop-holds c = let s = c .before in by-records-none (s .args .each) (s .args .at) (s .args .w) (s .args .work .now) (s .pre .3)
+loop-holds c = raised-none (c .before .pre .1)
 
 add-under : tie.Need-add-under Inv-loop μ-loop
 add-under c = omega arith
@@ -36,23 +37,15 @@ slice-read-under c = omega arith
 
 -- in a turn the entry below is not above the mark
 under-small : (c : tie.In-loop Inv-loop μ-loop)
-    → let s = c .before .before .before in
-    getD (c .before .loop .work) (s .args .at - s .args .w + c .before .loop .i) 0 ≤ noSplit
-under-small c =
-    let s = c .before .before .before in
-    let l = c .before .loop in
-    under-records-le (s .args .each) (s .args .at) (s .args .w) (s .args .work .now) (s .pre .3) (l .i) (l .records) (l .work)
-    (l .inv) (c .loop-test .taken) (s .pre .1) (s .pre .2)
+    → let a = start c .args in
+    getD (c .before .loop .work) (a .at - a .w + c .before .loop .i) 0 ≤ noSplit
+under-small c = under-le (start c .pre .1) (c .before .loop .inv) (c .loop-test .taken)
 
 cast-under : tie.Need-cast-under Inv-loop μ-loop
 cast-under c = let h = under-small (c .before) in omega arith
 
 add-smaller : tie.Need-add-smaller Inv-loop μ-loop
-add-smaller c =
-    let s = c .before .before .before .before in
-    let l = c .before .before .loop in
-    let h = by-records-le (s .args .each) (s .args .at) (s .args .w) (s .args .work .now) (s .pre .3) (l .i) (l .records) (l .work) (l .inv) in
-    omega arith
+add-smaller c = let t = c .before in let h = records-le (start t .pre .1) (t .before .loop .inv) in omega arith
 
 smaller-requires : tie.Need-smaller-requires Inv-loop μ-loop
 smaller-requires c κs = tt
@@ -77,20 +70,18 @@ loop-less c = omega arith
 
 loop-again : tie.Need-loop-again Inv-loop μ-loop
 loop-again c =
-    let s = c .before .before .before .before .before in
-    let l = c .before .before .before .loop in
-    by-records-next (s .args .each) (s .args .at) (s .args .w) (s .args .work .now) (s .pre .3) (l .i) (l .records) (l .work)
-    (l .inv) (c .before .before .loop-test .taken) (s .pre .1) (s .pre .2) (c .smaller .result) (c .smaller .ensures)
+    let t = c .before .before in
+    let turn = t .loop-test .taken in
+    let raised = t .before .loop .inv in
+    let below = start t .pre .1 in
+    let more = c .smaller in
+    raised-next below raised turn (more .result) (more .result) (more .ensures) (by-record below raised turn (more .ensures))
 
 same-length : tie.Need-same-length Inv-loop μ-loop
 same-length c = c .before .loop .inv .same
 
 returns : tie.Need-returns Inv-loop μ-loop
-returns c =
-    let a = c .before .before .before .args in
-    let l = c .before .loop in
-    let e : l .i ≡ a .w = let g = l .inv .within in omega arith in
-    l .inv .written ∙ ap (putFirst (a .at) (a .work .now) (stepped 1 1 (a .each) (part (a .at - a .w) (a .w) (a .work .now)))) e
+returns c = raised-all (c .before .before .before .pre .1) (c .before .loop .inv) (omega arith)
 
 pub raise-by-records-spec : {M : Type 1} → statement M
 raise-by-records-spec =

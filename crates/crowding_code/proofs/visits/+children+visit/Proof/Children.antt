@@ -1,133 +1,103 @@
 -- What `crowding_code::visits::children` needs, where `visit` holds for smaller measures. Assumes nothing.
-use mathlib.Core.Path.{_≡_, refl, _∙_}
-use lib.ListN.{length, getD}
-use Rattle.crowding.proofs.Visits.{ToVisit, visit-start, visit-end, visit-skip, visit-chained, visit-next}
+use Prim.Native.Nat.{ℕ, _-_, _<_}
+use lib.ListN.{getD}
+use Rattle.crowding.proofs.VisitLevel.{Visiting, visiting-start, visiting-end, visiting-skip, visiting-chain, visiting-next}
 use native.Mathlib.Omega.{arith}
 use borrow.Author.Needs.{needs}
-use Prim.Native.Nat.{ℕ, _-_, _≤_, _<_}
+use borrow.Fn.Kinds.{In, Out}
 use Rattle.crowding_code.proofs.visits.children.Reads as children
-use Rattle.crowding_code.proofs.visits.+children+visit.Lts-children as children-lts
+use Rattle.crowding_code.proofs.visits.children.Kinds as children-kinds
+use Rattle.crowding_code.proofs.visits.+children+visit.Lts-children as lts
 use Rattle.crowding_code.proofs.visits.visit.Reads as visit
 use Rattle.crowding_code.proofs.visits.+children+visit.Proof.Measures.{children-at, visit-below}
 
-abbrev pub Inv-loop : children-lts.InvT-loop
-Inv-loop rows r w bound high heads counts low next₀ least v₀ lowest₀ next v lowest =
-    (v ≤ 256) × (low ≤ v) × (length next ≡ length next₀) × ToVisit r w bound rows heads counts next₀ least next v lowest
+abbrev pub Inv-loop : lts.InvT-loop
+Inv-loop rows search heads counts next₀ bound first v₀ found₀ next v found =
+    Visiting rows search heads counts next₀ found₀ next v found
 
-abbrev pub μ-loop : children-lts.MeasureT-loop
-μ-loop rows r w bound high heads counts low next₀ least v₀ lowest₀ next v lowest = v
+abbrev pub μ-loop : lts.MeasureT-loop
+μ-loop rows search heads counts next₀ bound first v₀ found₀ next v found = v
 
-pub loop-holds : (t : ℕ)
-    → children-lts.Need-loop-holds (visit-below t, visit.Post) (children-at t) children.Post Inv-loop μ-loop
-loop-holds t c =
-    let g = c .before .before .before .before .args in
-    let pre = c .before .before .before .before .pre .1 in (
-      pre .1 .1 .0 .0,
-      pre .1 .1 .0 .2,
-      refl,
-      visit-start (g .r) (g .w) (g .bound) (g .rows .now) (g .heads .now) (g .counts .now)
-          (g .next .now) (g .least) (omega (arith, pre .0)) (g .high) (pre .1 .1 .0 .0) (pre .1 .1 .0 .1) (pre .1 .1 .1 .1),
-    )
+-- a place of the code, or what is needed there
+abbrev At : (t : ℕ)
+    → (lts.Claims → In 4 children-kinds.ps → Out 4 children-kinds.ps children-kinds.r → lts.InvT-loop → lts.MeasureT-loop → Type 0)
+    → Type 0
+At t place = place (visit-below t, visit.Post) (children-at t) children.Post Inv-loop μ-loop
 
-pub sub-v : (t : ℕ) → children-lts.Need-sub-v (visit-below t, visit.Post) (children-at t) children.Post Inv-loop μ-loop
-sub-v t c = search needs
+module _ (t : ℕ) where
+  -- what the call was given
+  abbrev start : At t lts.At-loop → At t lts.Start
+  start c = c .before .before .before .before .before .before .before .before .before
 
-pub mul-count : (t : ℕ)
-    → children-lts.Need-mul-count (visit-below t, visit.Post) (children-at t) children.Post Inv-loop μ-loop
-mul-count t c = search needs
+  -- the turn that a node is visited in, with its chain longer than the bound
+  abbrev turn : At t lts.Else1 → At t lts.In-loop
+  turn c = c .before .before
 
-pub shared-slice-read-count : (t : ℕ)
-    → children-lts.Need-shared-slice-read-count (visit-below t, visit.Post) (children-at t) children.Post Inv-loop μ-loop
-shared-slice-read-count t c = search needs
+  some : (c : At t lts.In-loop) → 0 < c .before .loop .v
+  some c = omega (arith, c .loop-test .taken)
 
-pub cast-if1 : (t : ℕ)
-    → children-lts.Need-cast-if1 (visit-below t, visit.Post) (children-at t) children.Post Inv-loop μ-loop
-cast-if1 t c =
-    omega (arith, c .shared-slice-known4 .given (c .before .before .loop .v - 1))
+  many : (c : At t lts.Else1)
+      → start (turn c .before) .args .search .bound < getD (start (turn c .before) .args .counts .now) (turn c .before .loop .v - 1) 0
+  many c = omega (arith, c .if1 .left)
 
-pub loop-less : (t : ℕ)
-    → children-lts.Need-loop-less (visit-below t, visit.Post) (children-at t) children.Post Inv-loop μ-loop
-loop-less t c = search needs
+  pub cast-first : At t lts.Need-cast-first
+  cast-first c = search needs
 
-pub loop-again : (t : ℕ)
-    → children-lts.Need-loop-again (visit-below t, visit.Post) (children-at t) children.Post Inv-loop μ-loop
-loop-again t c =
-    let l = c .before .before .before .loop in
-    let g = c .before .before .before .before .before .before .before .before .args in
-    let pos : 0 < l .v = omega (arith, c .before .before .loop-test .taken) in (
-      omega arith,
-      omega arith,
-      l .inv .2,
-      visit-skip (g .r) (g .w) (g .bound) (g .rows .now) (g .heads .now) (g .counts .now)
-          (g .next .now) (g .least) (l .next) (l .v) (l .lowest) pos (c .if1 .taken) (l .inv .3),
-    )
+  pub cast-v : At t lts.Need-cast-v
+  cast-v c = search needs
 
-pub mul-visit : (t : ℕ)
-    → children-lts.Need-mul-visit (visit-below t, visit.Post) (children-at t) children.Post Inv-loop μ-loop
-mul-visit t c = search needs
+  pub add-v : At t lts.Need-add-v
+  add-v c = search needs
 
-pub shared-slice-read-visit : (t : ℕ)
-    → children-lts.Need-shared-slice-read-visit (visit-below t, visit.Post) (children-at t) children.Post Inv-loop μ-loop
-shared-slice-read-visit t c = search needs
+  pub loop-holds : At t lts.Need-loop-holds
+  loop-holds c = visiting-start (c .before .before .before .before .before .before .before .before .pre .1) (omega arith)
 
-pub visit-requires : (t : ℕ)
-    → children-lts.Need-visit-requires (visit-below t, visit.Post) (children-at t) children.Post Inv-loop μ-loop
-visit-requires t c κs =
-    let l = c .before .before .before .before .before .loop in
-    let g = c .before .before .before .before .before .before .before .before .before .before .args in
-    let pre = c .before .before .before .before .before .before .before .before .before .before .pre .1 in
-    let pos : 0 < l .v = omega (arith, c .before .before .before .before .loop-test .taken) in
-    let some : 0 < getD (g .counts .now) (l .v - 1) 0 = omega (arith, c .before .before .if1 .left) in (
-      omega (arith, c .before .before .before .before .before .before .before .before .before .before .pre .0),
-      (
-        (pre .0 .0, pre .0 .1, omega (arith, pre .0), pre .0 .3),
-        (
-          (omega (arith, c .before .before .if1 .left), pre .1 .0 .2 (l .v - 1)),
-          (
-            (pre .1 .1 .0 .0, pre .1 .1 .0 .1),
-            (
-              pre .1 .1 .1 .0,
-              visit-chained (g .r) (g .w) (g .bound) (g .rows .now) (g .heads .now) (g .counts .now) (g .next .now)
-                  (g .least) (pre .1 .1 .1 .1) (l .next) (l .v) (l .lowest) pos some (l .inv .3),
-            ),
-          ),
-        ),
-      ),
-    )
+  pub sub-v : At t lts.Need-sub-v
+  sub-v c = search needs
 
-pub loop-less-2 : (t : ℕ)
-    → children-lts.Need-loop-less-2 (visit-below t, visit.Post) (children-at t) children.Post Inv-loop μ-loop
-loop-less-2 t c = search needs
+  pub mul-count : At t lts.Need-mul-count
+  mul-count c = search needs
 
-pub loop-again-2 : (t : ℕ)
-    → children-lts.Need-loop-again-2 (visit-below t, visit.Post) (children-at t) children.Post Inv-loop μ-loop
-loop-again-2 t c =
-    let l = c .before .before .before .before .before .before .before .before .loop in
-    let g = c .before .before .before .before .before .before .before .before .before .before .before .before .before .args in
-    let pre = c .before .before .before .before .before .before .before .before .before .before .before .before .before .pre .1 in
-    let pos : 0 < l .v = omega (arith, c .before .before .before .before .before .before .before .loop-test .taken) in
-    let some : 0 < getD (g .counts .now) (l .v - 1) 0 = omega (arith, c .before .before .before .before .before .if1 .left) in
-    let called = c .before .before .visit in
-    let last = called .last .1 .1 .1 .1 .1 .1 .1 .0 in (
-      omega arith,
-      omega arith,
-      called .kept .1 .1 .1 .1 .1 .1 .1 .0 ∙ l .inv .2,
-      visit-next (g .r) (g .w) (g .bound) (g .rows .now) (g .heads .now) (g .counts .now) (g .next .now) (g .least)
-          (pre .1 .1 .1 .1) (l .next) (l .v) (l .lowest) pos some (l .inv .3) last (called .result)
-          (called .ensures .0) (called .ensures .1),
-    )
+  pub shared-slice-read-count : At t lts.Need-shared-slice-read-count
+  shared-slice-read-count c = search needs
 
-pub same-length : (t : ℕ)
-    → children-lts.Need-same-length (visit-below t, visit.Post) (children-at t) children.Post Inv-loop μ-loop
-same-length t c =
-    c .before .loop .inv .2
+  pub cast-if1 : At t lts.Need-cast-if1
+  cast-if1 c = omega (arith, c .shared-slice-known4 .given (c .before .before .loop .v - 1))
 
-pub returns : (t : ℕ) → children-lts.Need-returns (visit-below t, visit.Post) (children-at t) children.Post Inv-loop μ-loop
-returns t c =
-    let l = c .before .loop in
-    let g = c .before .before .before .before .before .before .args in
-    let pre = c .before .before .before .before .before .before .pre .1 in (
-      visit-end (g .r) (g .w) (g .bound) (g .rows .now) (g .heads .now) (g .counts .now) (g .next .now) (g .least) (l .next) (l .v)
-          (l .lowest) (λ u lt. pre .1 .1 .0 .3 u (omega arith)) (l .inv .3),
-      l .inv .3 .2,
-    )
+  pub loop-less : At t lts.Need-loop-less
+  loop-less c = search needs
+
+  pub loop-again : At t lts.Need-loop-again
+  loop-again c =
+      let here = c .before .before in
+      visiting-skip (start (here .before) .pre .1) (here .before .loop .inv) (some here) (omega (arith, c .if1 .taken))
+
+  pub mul-head : At t lts.Need-mul-head
+  mul-head c = search needs
+
+  pub shared-slice-read-head : At t lts.Need-shared-slice-read-head
+  shared-slice-read-head c = search needs
+
+  pub visit-requires : At t lts.Need-visit-requires
+  visit-requires c κs =
+      let chosen = c .before .before in
+      let here = turn chosen in
+      let s = start (here .before) in
+      (omega (arith, s .pre .0), visiting-chain (s .pre .1) (here .before .loop .inv) (some here) (many chosen))
+
+  pub loop-less-2 : At t lts.Need-loop-less-2
+  loop-less-2 c = search needs
+
+  pub loop-again-2 : At t lts.Need-loop-again-2
+  loop-again-2 c =
+      let called = c .before .before in
+      let chosen = called .before .before .before in
+      let here = turn chosen in
+      visiting-next (start (here .before) .pre .1) (here .before .loop .inv) (some here) (many chosen) (called .visit .ensures)
+      (called .visit .kept .1 .1 .1 .0)
+
+  pub same-length : At t lts.Need-same-length
+  same-length c = c .before .loop .inv .all-next
+
+  pub returns : At t lts.Need-returns
+  returns c = visiting-end (start (c .before) .pre .1) (c .before .loop .inv) (c .loop-test .left)

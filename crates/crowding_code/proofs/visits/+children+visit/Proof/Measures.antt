@@ -8,20 +8,20 @@ use Rattle.crowding_code.proofs.visits.children.Kinds as children-kinds
 use Rattle.crowding_code.proofs.visits.visit.Reads as visit
 use Rattle.crowding_code.proofs.visits.visit.Kinds as visit-kinds
 use Rattle.crowding_code.proofs.visits.+children+visit.Lts-visit as visit-lts
-use Rattle.crowding_counts.proofs.counting.most_after.Reads as most-after-reads
-use Rattle.crowding_links.proofs.tails.link_tails.Reads as link-tails-reads
-use Rattle.crowding_counts.proofs.extremes.lowest.Reads as lowest-reads
+use Rattle.crowding_chains.proofs.most_after.Reads as most-after-reads
+use Rattle.crowding_chains.proofs.link_tails.Reads as link-tails-reads
+use Rattle.crowding_chains.proofs.lowest.Reads as lowest-reads
 
 abbrev pub μ-children : Measures 4 children-kinds.ps ℕ
-μ-children κs a = 2 * a .1 .1 .0 + 1
+μ-children κs a = 2 * a .1 .0 .level .w + 1
 
 abbrev pub μ-visit : Measures 2 visit-kinds.ps ℕ
-μ-visit κs a = 2 * a .1 .1 .0
+μ-visit κs a = 2 * a .1 .0 .level .w
 
 abbrev pub children-at : ℕ → In 4 children-kinds.ps
 children-at t = and 4 children-kinds.ps (is 4 children-kinds.ps μ-children t) children.Pre
 
-abbrev pub children-below : ℕ → In 4 children-kinds.ps
+abbrev children-below : ℕ → In 4 children-kinds.ps
 children-below t =
     and 4 children-kinds.ps (falls 4 children-kinds.ps _<_ μ-children t) children.Pre
 

@@ -1,175 +1,119 @@
 -- What `crowding_code::visits::visit` needs, where `children` holds for smaller measures. Assumes nothing.
-use mathlib.Core.Path.{refl, _∙_}
-use lib.ListN.{length, getD}
-use Rattle.lists.proofs.Alls.{all-imp}
-use Rattle.crowding.specs.Chains.{rowEnd, tailsAt, follow, Placed}
-use Rattle.crowding.proofs.Follow.{at-most-zero}
-use Rattle.crowding.proofs.Visits.{visit-last, within-next, within-rows, most-few, grown-lowest, grown-few}
+use Prim.Native.Nat.{ℕ, _<_}
+use Rattle.crowding.proofs.VisitChain.{row-some, chain-inside, chain-entries, visited-last, chain-to-count, visited-few, chain-to-link, visited-short, node-above, level-to-visit, visited-level}
 use native.Mathlib.Omega.{arith}
 use borrow.Author.Needs.{needs}
-use Prim.Native.Nat.{ℕ, _-_, _≤_, _<_}
+use borrow.Fn.Kinds.{In, Out}
 use Rattle.crowding_code.proofs.visits.visit.Reads as visit
-use Rattle.crowding_code.proofs.visits.+children+visit.Lts-visit as visit-lts
+use Rattle.crowding_code.proofs.visits.visit.Kinds as visit-kinds
+use Rattle.crowding_code.proofs.visits.+children+visit.Lts-visit as lts
 use Rattle.crowding_code.proofs.visits.+children+visit.Proof.Measures.{visit-at, callees}
 
-pub lowest-requires : (t : ℕ) → visit-lts.Need-lowest-requires (callees t) (visit-at t) visit.Post
-lowest-requires t c κs =
-    let g = c .before .before .before .before .args in
-    let pre = c .before .before .before .before .pre .1 in
-    let pos : 0 < g .r = omega (arith, pre .0) in (
-      pos,
-      within-next (g .r) (g .w) (g .bound) (g .rows .now) (g .next .now) (g .head) (g .count) (g .least) pos (pre .0 .2)
-          (getD (g .rows .now) (g .head) 0) (pre .1 .1 .1 .1),
-    )
+-- a place of the code, or what is needed there
+abbrev At : (t : ℕ) → (lts.Claims → In 2 visit-kinds.ps → Out 2 visit-kinds.ps visit-kinds.r → Type 0) → Type 0
+At t place = place (callees t) (visit-at t) visit.Post
 
-pub same-length : (t : ℕ) → visit-lts.Need-same-length (callees t) (visit-at t) visit.Post
-same-length t c = search needs
+module _ (t : ℕ) where
+  -- what the call was given
+  abbrev start : At t lts.After-level → At t lts.Start
+  start c = c .before .before .before
 
-pub returns : (t : ℕ) → visit-lts.Need-returns (callees t) (visit-at t) visit.Post
-returns t c =
-    let g = c .before .before .before .before .before .args in
-    let pre = c .before .before .before .before .before .pre .1 in (
-      c .lowest .ensures ∙ visit-last (g .r) (g .w) (g .bound) (g .rows .now) (g .next .now) (g .head) (g .count) (g .least)
-          (c .before .before .if1 .taken) (pre .1 .0 .0),
-      λ p le. refl,
-    )
+  -- where nodes are still to come, and where the level below is linked
+  abbrev more : At t lts.After-link-tails → At t lts.Else1
+  more c = c .before .before .before .before .before .before .before
 
-pub most-after-requires : (t : ℕ) → visit-lts.Need-most-after-requires (callees t) (visit-at t) visit.Post
-most-after-requires t c κs =
-    let g = c .before .before .before .before .args in
-    let pre = c .before .before .before .before .pre .1 in
-    let pos : 0 < g .r = omega (arith, pre .0) in (
-      (pos, pre .0 .1, pre .0 .2, pre .1 .0 .1),
-      (
-        pre .1 .1 .1 .0,
-        all-imp (Placed (g .r) (g .rows .now) (getD (g .rows .now) (g .head) 0)) (λ p. rowEnd (g .r) p ≤ length (g .rows .now))
-            (λ p placed. placed .0)
-            (follow (g .count) (g .next .now) (g .head)) (pre .1 .1 .1 .1 .0),
-      ),
-    )
+  abbrev linked : At t lts.Else3 → At t lts.After-link-tails
+  linked c = c .before .before .before .before .before
 
-pub same-length-2 : (t : ℕ) → visit-lts.Need-same-length-2 (callees t) (visit-at t) visit.Post
-same-length-2 t c = search needs
+  some : (c : At t lts.Else1) → 0 < start (c .before) .args .search .level .w
+  some c = omega (arith, c .if1 .left)
 
-pub returns-2 : (t : ℕ) → visit-lts.Need-returns-2 (callees t) (visit-at t) visit.Post
-returns-2 t c =
-    let g = c .before .before .before .before .before .before .args in
-    let pre = c .before .before .before .before .before .before .pre .1 in (
-      most-few (g .w) (g .bound) (c .before .most-after .result)
-          (tailsAt (g .r) (g .rows .now) (follow (g .count) (g .next .now) (g .head))) (g .least)
-          (omega (arith, c .before .before .before .if1 .left)) (c .before .most-after .ensures) (c .if2 .taken),
-      λ p le. refl,
-    )
+  pub lowest-requires : At t lts.Need-lowest-requires
+  lowest-requires c κs =
+      let pre = start (c .before .before) .pre .1 in
+      (row-some pre, chain-entries pre)
 
-pub sub-link-tails : (t : ℕ) → visit-lts.Need-sub-link-tails (callees t) (visit-at t) visit.Post
-sub-link-tails t c = search needs
+  pub same-length : At t lts.Need-same-length
+  same-length c = search needs
 
-pub slice-aggregate-link-tails : (t : ℕ) → visit-lts.Need-slice-aggregate-link-tails (callees t) (visit-at t) visit.Post
-slice-aggregate-link-tails t c = search needs
+  pub returns : At t lts.Need-returns
+  returns c =
+      let last = c .before .before in
+      visited-last (start (last .before) .pre .1) (last .if1 .taken) (c .lowest .ensures)
 
-pub slice-aggregate-link-tails-2 : (t : ℕ) → visit-lts.Need-slice-aggregate-link-tails-2 (callees t) (visit-at t) visit.Post
-slice-aggregate-link-tails-2 t c = search needs
+  pub most-after-requires : At t lts.Need-most-after-requires
+  most-after-requires c κs = chain-to-count (start (c .before .before) .pre .1)
 
-pub link-tails-requires : (t : ℕ) → visit-lts.Need-link-tails-requires (callees t) (visit-at t) visit.Post
-link-tails-requires t c κs =
-    let pre = c .before .before .before .before .before .before .before .before .before .pre .1 in (
-      (omega (arith, pre .0), pre .0 .1, pre .0 .2, pre .0 .3, pre .1 .0 .1),
-      ((refl, refl, at-most-zero 256), (pre .1 .1 .1 .0, pre .1 .1 .1 .1)),
-    )
+  pub same-length-2 : At t lts.Need-same-length-2
+  same-length-2 c = search needs
 
-pub same-length-3 : (t : ℕ) → visit-lts.Need-same-length-3 (callees t) (visit-at t) visit.Post
-same-length-3 t c = search needs
+  pub returns-2 : At t lts.Need-returns-2
+  returns-2 c =
+      let counted = c .before in
+      let here = counted .before .before in
+      visited-few (start (here .before) .pre .1) (some here) (counted .most-after .result) (counted .most-after .ensures) (c .if2 .taken)
 
-pub returns-3 : (t : ℕ) → visit-lts.Need-returns-3 (callees t) (visit-at t) visit.Post
-returns-3 t c =
-    let g = c .before .before .before .before .before .before .before .before .before .before .before .before .before .before .before .args in
-    let linked = c .before .before .before .before .before .link-tails in
-    let heads = linked .last .1 .1 .1 .1 .1 .0 in
-    let counts = linked .last .1 .1 .1 .1 .1 .1 .0 in
-    let next = linked .last .1 .1 .1 .1 .1 .1 .1 .0 in (
-      grown-few (g .w) (g .w - 1) (g .bound) (g .r) (g .rows .now) heads counts next
-          (tailsAt (g .r) (g .rows .now) (follow (g .count) (g .next .now) (g .head))) (g .least)
-          (omega (arith, c .before .before .before .before .before .before .before .before .before .before .before .before .if1 .left))
-          (linked .ensures .0) (linked .result)
-          (linked .ensures .1 .1 .0 .0) (c .if3 .taken),
-      linked .ensures .1 .1 .1,
-    )
+  pub sub-w : At t lts.Need-sub-w
+  sub-w c = search needs
 
-pub shared-slice-read-low : (t : ℕ) → visit-lts.Need-shared-slice-read-low (callees t) (visit-at t) visit.Post
-shared-slice-read-low t c =
-    let g = c .before .before .before .before .before .before .before .before .before .before .before .before .before .before .before .before .args in
-    let pre = c .before .before .before .before .before .before .before .before .before .before .before .before .before .before .before .before .pre .1 in
-    within-rows (g .r) (g .w) (g .bound) (g .rows .now) (g .next .now) (g .head) (g .count) (g .least) (omega (arith, pre .0))
-    (omega (arith, pre .1 .0)) (getD (g .rows .now) (g .head) 0) (pre .1 .1 .1 .1)
+  pub slice-aggregate-link-tails : At t lts.Need-slice-aggregate-link-tails
+  slice-aggregate-link-tails c = search needs
 
-pub cast-low : (t : ℕ) → visit-lts.Need-cast-low (callees t) (visit-at t) visit.Post
-cast-low t c =
-    omega (
-      arith,
-      c .shared-slice-known2 .given
-          (c .before .before .before .before .before .before .before .before .before .before .before .before .before .before .before .before .args .head),
-    )
+  pub slice-aggregate-link-tails-2 : At t lts.Need-slice-aggregate-link-tails-2
+  slice-aggregate-link-tails-2 c = search needs
 
-pub add-low : (t : ℕ) → visit-lts.Need-add-low (callees t) (visit-at t) visit.Post
-add-low t c =
-    omega (
-      arith,
-      c .shared-slice-known2 .given
-          (c .before .before .before .before .before .before .before .before .before .before .before .before .before .before .before .before .args .head),
-    )
+  pub link-tails-requires : At t lts.Need-link-tails-requires
+  link-tails-requires c κs =
+      let here = c .before .before .before .before .before .before in
+      chain-to-link (start (here .before) .pre .1) (some here)
 
-pub sub-children : (t : ℕ) → visit-lts.Need-sub-children (callees t) (visit-at t) visit.Post
-sub-children t c = search needs
+  pub same-length-3 : At t lts.Need-same-length-3
+  same-length-3 c = search needs
 
-pub slice-aggregate-children : (t : ℕ) → visit-lts.Need-slice-aggregate-children (callees t) (visit-at t) visit.Post
-slice-aggregate-children t c = search needs
+  pub returns-3 : At t lts.Need-returns-3
+  returns-3 c =
+      let below = c .before .before .before .before .before in
+      let here = more below in
+      visited-short (start (here .before) .pre .1) (some here) (below .link-tails .ensures) (c .if3 .taken)
 
-pub slice-aggregate-children-2 : (t : ℕ) → visit-lts.Need-slice-aggregate-children-2 (callees t) (visit-at t) visit.Post
-slice-aggregate-children-2 t c = search needs
+  pub cast-above : At t lts.Need-cast-above
+  cast-above c = search needs
 
-pub children-requires : (t : ℕ) → visit-lts.Need-children-requires (callees t) (visit-at t) visit.Post
-children-requires t c κs =
-    let g = c .before .before .before .before .before .before .before .before .before .before .before .before .before .before .before .before .before .before .before .args in
-    let pre = c .before .before .before .before .before .before .before .before .before .before .before .before .before .before .before .before .before .before .before .pre .1 in
-    let linked = c .before .before .before .before .before .before .before .before .before .link-tails in
-    let next = linked .last .1 .1 .1 .1 .1 .1 .1 .0 in
-    let inside = within-rows (g .r) (g .w) (g .bound) (g .rows .now) (g .next .now) (g .head) (g .count) (g .least)
-    (omega (arith, pre .0)) (omega (arith, pre .1 .0)) (getD (g .rows .now) (g .head) 0) (pre .1 .1 .1 .1) in (
-      omega
-          (arith, c .before .before .before .before .before .before .before .before .before .before .before .before .before .before .before .before .before .before .before .pre .0, c .before .before .before .before .before .before .before .before .before .before .before .before .before .before .before .before .if1 .left),
-      (
-        (omega (arith, pre .0), pre .0 .1, omega (arith, pre .0, linked .kept .1 .1 .1 .1 .1 .1 .1 .0), pre .0 .3),
-        (
-          (linked .kept .1 .1 .1 .1 .1 .0, linked .kept .1 .1 .1 .1 .1 .1 .0, λ v. omega (arith, linked .ensures .1 .1 .0 .1 v, pre .1 .0 .1)),
-          (
-            (
-              pre .1 .1 .0 .0,
-              pre .1 .1 .0 .1,
-              omega (arith, pre .1 .1 .0 .1 (g .head) inside),
-              λ u lt. linked .ensures .1 .1 .0 .2 u (omega (arith, lt)),
-            ),
-            (pre .1 .1 .1 .0, linked .ensures .1 .0),
-          ),
-        ),
-      ),
-    )
+  pub shared-slice-read-above : At t lts.Need-shared-slice-read-above
+  shared-slice-read-above c = chain-inside (start (more (linked (c .before)) .before) .pre .1)
 
-pub same-length-4 : (t : ℕ) → visit-lts.Need-same-length-4 (callees t) (visit-at t) visit.Post
-same-length-4 t c = search needs
+  pub add-above : At t lts.Need-add-above
+  add-above c =
+      let below = linked (c .before) in
+      let here = more below in
+      omega (
+        arith,
+        node-above (start (here .before) .pre .1) (some here) (below .link-tails .ensures) (below .link-tails .kept .1 .1 .1 .1 .0)
+            (c .before .if3 .left),
+      )
 
-pub returns-4 : (t : ℕ) → visit-lts.Need-returns-4 (callees t) (visit-at t) visit.Post
-returns-4 t c =
-    let g = c .before .before .before .before .before .before .before .before .before .before .before .before .before .before .before .before .before .before .before .before .before .before .args in
-    let linked = c .before .before .before .before .before .before .before .before .before .before .before .before .link-tails in
-    let heads = linked .last .1 .1 .1 .1 .1 .0 in
-    let counts = linked .last .1 .1 .1 .1 .1 .1 .0 in
-    let next = linked .last .1 .1 .1 .1 .1 .1 .1 .0 in
-    let called = c .before .before .children in (
-      called .ensures .0
-          ∙ grown-lowest (g .w) (g .w - 1) (g .bound) (g .r) (g .rows .now) heads counts next
-          (tailsAt (g .r) (g .rows .now) (follow (g .count) (g .next .now) (g .head))) (g .least)
-          (omega
-          (arith, c .before .before .before .before .before .before .before .before .before .before .before .before .before .before .before .before .before .before .before .if1 .left))
-          (linked .ensures .0),
-      λ p le. called .ensures .1 (getD (g .rows .now) (g .head) 0) (linked .ensures .1 .1 .0 .2) p le ∙ linked .ensures .1 .1 .1 p le,
-    )
+  pub slice-aggregate-children : At t lts.Need-slice-aggregate-children
+  slice-aggregate-children c = search needs
+
+  pub slice-aggregate-children-2 : At t lts.Need-slice-aggregate-children-2
+  slice-aggregate-children-2 c = search needs
+
+  pub children-requires : At t lts.Need-children-requires
+  children-requires c κs =
+      let below = linked (c .before .before .before .before .before) in
+      let here = more below in
+      let s = start (here .before) in
+      let lengths = below .link-tails .kept .1 .1 in (
+        omega (arith, s .pre .0, some here),
+        level-to-visit (s .pre .1) (some here) (below .link-tails .ensures) (lengths .1 .0) (lengths .1 .1 .0) (lengths .1 .1 .1 .0),
+      )
+
+  pub same-length-4 : At t lts.Need-same-length-4
+  same-length-4 c = search needs
+
+  pub returns-4 : At t lts.Need-returns-4
+  returns-4 c =
+      let called = c .before .before in
+      let below = linked (called .before .before .before .before .before .before) in
+      let here = more below in
+      visited-level (start (here .before) .pre .1) (some here) (below .link-tails .ensures) (called .children .ensures)

@@ -1,0 +1,162 @@
+// Answers as numbers: 0 and the values that document 01 gives a result, or a refusal's number and place.
+use layers::LayerHead;
+use number::NumberRead;
+use number::NumberWritten;
+use number::Reading;
+use pack::PackAnswer;
+use pack::PackCheck;
+use pack::PackHead;
+use packing::RowFound;
+use placement::PlacementAnswer;
+use placement::PlacementCheck;
+use placement::PlacementHead;
+use planner::PlanAnswer;
+use planner::PlanResult;
+use refusal::Refusal;
+use report::Reply;
+ghost use mathlib.Core.Path.{_≡_};
+ghost use lib.ListN.{length};
+
+// What no call answers.
+pub(crate) fn unknown() -> [usize; 18] {
+    [99; 18]
+}
+
+// Three numbers, and 0 after them.
+fn numbers(a: usize, b: usize, c: usize) -> [usize; 18] {
+    [a, b, c, 0, 0, 0, 0, 0, 0, 0, 0, 0, 0, 0, 0, 0, 0, 0]
+}
+
+// A refusal's number and place.
+pub(crate) fn refused(e: Refusal) -> [usize; 18] {
+    numbers(refusal_code::number(e), refusal_code::place(e), 0)
+}
+
+// One value.
+pub(crate) fn one(value: usize) -> [usize; 18] {
+    numbers(0, value, 0)
+}
+
+// The value and the next place.
+fn reading(number: Reading) -> [usize; 18] {
+    numbers(0, number.value, number.next)
+}
+
+pub(crate) fn number_read(read: NumberRead) -> [usize; 18] {
+    match read {
+        NumberRead::Value(number) => reading(number),
+        NumberRead::Refused(e) => refused(e),
+    }
+}
+
+pub(crate) fn number_written(written: NumberWritten) -> [usize; 18] {
+    match written {
+        NumberWritten::Written(n) => one(n),
+        NumberWritten::Refused(e) => refused(e),
+    }
+}
+
+// 0, seven numbers of a head and each layer's bound and size.
+fn with_layers(head: PlacementHead, l: [LayerHead; 5]) -> [usize; 18] {
+    [
+        0,
+        head.n,
+        head.r,
+        head.s,
+        head.k,
+        head.b,
+        head.figure,
+        head.first,
+        l[0].bound,
+        l[0].size,
+        l[1].bound,
+        l[1].size,
+        l[2].bound,
+        l[2].size,
+        l[3].bound,
+        l[3].size,
+        l[4].bound,
+        l[4].size,
+    ]
+}
+
+// n, r, the place of the first block, and the layers' numbers.
+fn pack_head(head: PackHead, heads: [LayerHead; 5]) -> [usize; 18] {
+    let numbers = PlacementHead {
+        n: head.n,
+        r: head.r,
+        s: 0,
+        k: 0,
+        b: 0,
+        figure: 0,
+        first: head.first,
+    };
+    with_layers(numbers, heads)
+}
+
+pub(crate) fn pack_checked(check: PackCheck) -> [usize; 18] {
+    let answer = check.answer;
+    let heads = check.layers;
+    match answer {
+        PackAnswer::Accepted(head) => pack_head(head, heads),
+        PackAnswer::Refused(e) => refused(e),
+    }
+}
+
+// n, r, s, k, b, F, the place of the first row, and the layers' numbers.
+pub(crate) fn placement_checked(check: PlacementCheck) -> [usize; 18] {
+    let answer = check.answer;
+    let heads = check.layers;
+    match answer {
+        PlacementAnswer::Accepted(head) => with_layers(head, heads),
+        PlacementAnswer::Refused(e) => refused(e),
+    }
+}
+
+// The length, F and the counts.
+fn planned(length: usize, figure: usize, counts: [usize; 5]) -> [usize; 18] {
+    [
+        0,
+        length,
+        figure,
+        counts[0],
+        counts[1],
+        counts[2],
+        counts[3],
+        counts[4],
+        0,
+        0,
+        0,
+        0,
+        0,
+        0,
+        0,
+        0,
+        0,
+        0,
+    ]
+}
+
+pub(crate) fn plan_result(result: PlanResult) -> [usize; 18] {
+    let answer = result.answer;
+    let counts = result.counts;
+    match answer {
+        PlanAnswer::Planned { length, figure } => planned(length, figure, counts),
+        PlanAnswer::Refused(e) => refused(e),
+    }
+}
+
+// 1 and the row's number, or 0.
+pub(crate) fn row_found(found: RowFound) -> [usize; 18] {
+    match found {
+        RowFound::At(row) => numbers(0, 1, row.0),
+        RowFound::Nothing => numbers(0, 0, 0),
+    }
+}
+
+pub(crate) fn replied(reply: Reply) -> [usize; 18] {
+    match reply {
+        Reply::Written(n) => one(n),
+        Reply::Refused(e) => refused(e),
+    }
+}

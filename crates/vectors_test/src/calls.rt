@@ -1,0 +1,77 @@
+// The calls, by the number that a vector's head gives them. One that is new is one more case here and a name in tell.rt.
+use crate::answers;
+use crate::answers::unknown;
+use crate::script::Given;
+use packing::RowFound;
+ghost use Prim.Native.Nat.{_≤_, _<_};
+
+// The packing test of layer x on c rows of r nodes, where the rows stand in the bytes and are in order.
+fn crowded_rows(rows: &[u8], c: usize, r: usize, x: usize, bound: usize) -> [usize; 18]
+    requires { ⌜ (c ≤ 4096) × (r ≤ 5) × (x < r) ⌝ }
+{
+    let end = c * r;
+    if rows.len() < end {
+        return unknown();
+    }
+    let bad = rows_code::first_bad(rows, c, r, 256);
+    let RowFound::Nothing = bad else {
+        return unknown();
+    };
+    answers::row_found(crowding_code::first_crowded(rows, c, r, x, bound))
+}
+
+// The packing test, where its numbers are within limits.
+fn crowded(rows: &[u8], c: usize, r: usize, x: usize, bound: usize) -> [usize; 18] {
+    if 4_096 < c {
+        return unknown();
+    }
+    if 5 < r {
+        return unknown();
+    }
+    if r <= x {
+        return unknown();
+    }
+    crowded_rows(rows, c, r, x, bound)
+}
+
+// The calls that write nothing.
+fn told(call: usize, given: Given, input: &[u8]) -> [usize; 18] {
+    match call {
+        4 => answers::number_read(number_code::read_number(input, given.a)),
+        5 => answers::number_read(number_code::read_within(input, given.a, given.b, given.c)),
+        6 => answers::pack_checked(pack_code::check_pack(input)),
+        7 => answers::placement_checked(placement_code::check_placement(input)),
+        8 => crowded(input, given.a, given.b, given.c, given.d),
+        _ => unknown(),
+    }
+}
+
+// Planning, with the slices lent.
+fn plan(given: Given, input: &[u8], work: &mut [u16], out: &mut [u8]) -> [usize; 18] {
+    answers::plan_result(planner_code::plan(input, given.a, given.b, given.c, work, out))
+}
+
+// What the programs say.
+fn replied(call: usize, input: &[u8], work: &mut [u16], out: &mut [u8]) -> [usize; 18] {
+    if call == 12 {
+        return answers::replied(report_check::check_reply(input, out));
+    }
+    answers::replied(report_plan::plan_reply(input, work, out))
+}
+
+// What the call answers.
+pub(crate) fn answer(
+    call: usize,
+    given: Given,
+    input: &[u8],
+    work: &mut [u16],
+    out: &mut [u8],
+) -> [usize; 18] {
+    match call {
+        9 => answers::number_written(number_code::write_number(out, given.a)),
+        10 => plan(given, input, work, out),
+        11 => crate::walks::walked(input, out),
+        12 | 13 => replied(call, input, work, out),
+        _ => told(call, given, input),
+    }
+}

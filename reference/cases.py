@@ -1,0 +1,170 @@
+"""Inputs of the calls and programs, good and bad: document 01's files, both sides of each limit, the largest files, and random
+ones. Nothing here depends on the time or the machine.
+"""
+import random
+
+from document01 import LARGEST, check_placement, first_crowded, number_bytes, numbers, plan_reply, read_number
+from limits import largest_orders, largest_placements
+
+ROWS = "012 345 012 034 056 135 146 236 245".split()
+P = bytes([1, 7, 3, 1, 2, 1, 7, 1, 0]) + bytes(int(d) for row in ROWS for d in row)
+NINE = bytes([2, 7, 3, 2, 3, 9, 5, 1, 2, 1, 7]) + bytes(int(d) for row in ROWS for d in row)
+
+
+def order(s, k, b):
+    return numbers(s, k, b)
+
+
+def least_bound(rows, x, bound=1):
+    while first_crowded(rows, x, bound) is not None:
+        bound += 1
+    return bound
+
+
+def random_rows(draw, n, r, most):
+    return [tuple(sorted(draw.sample(range(n), r))) for _ in range(draw.randint(0, most))]
+
+
+def random_pack(draw, most=6, extra=0):
+    """A pack whose bounds are as small as its rows allow, `extra` more (or less) in some layers."""
+    n = draw.choice([2, 3, 4, 5, 6, 7, 8, 9, 12, 20, 254, 255])
+    r = draw.randint(2, min(5, n))
+    layers = [random_rows(draw, n, r, draw.choice([0, 0, 1, most])) for _ in range(r)]
+    head = []
+    for x, rows in enumerate(layers):
+        head += [max(1, least_bound(rows, x) + draw.choice([0, extra])), len(rows)]
+    return n, r, numbers(1, n, r, *head) + bytes(v for rows in layers for row in rows for v in row)
+
+
+def random_order(draw, n, r, most=12):
+    s = draw.randint(1, r)
+    k = draw.randint(s, n - 1) if s <= n - 1 else s
+    return s, k, draw.randint(1, most)
+
+
+def damaged(draw, data):
+    """The same bytes with one of a few kinds of damage."""
+    at = draw.randrange(len(data))
+    kind = draw.randrange(6)
+    if kind == 0:
+        return data[:at]
+    if kind == 1:
+        return data + bytes([draw.randrange(256)])
+    if kind == 2:
+        return data[:at] + bytes([draw.randrange(256)]) + data[at + 1:]
+    if kind == 3:
+        return data[:at] + bytes([(data[at] + draw.choice([1, 255])) % 256]) + data[at + 1:]
+    if kind == 4:
+        return data[:at] + data[at + 1:]
+    return data[:at] + bytes([draw.choice([0, 127, 128, 255])]) + data[at:]
+
+
+def renumbered(data, index, change):
+    """The same placement with head number `index` changed by `change`."""
+    at = 0
+    for _ in range(index + 1):
+        start = at
+        value, at = read_number(data, at)
+    return data[:start] + number_bytes(max(0, value + change)) + data[at:]
+
+
+def edge_placements():
+    """Both sides of each limit of a placement's head; the rows are those of one layer."""
+    def file(n=7, r=3, s=2, k=3, b=1, figure=None, heads=None, row=(0, 1, 2), kind=2, tail=b""):
+        heads = [(0, 0), (1, b)] if heads is None else heads
+        figure = b - min(b, 3) if figure is None else figure
+        flat = [v for head in heads for v in head]
+        return numbers(kind, n, r, s, k, b, figure, *flat) + bytes(row) * b + tail
+    yield from (b"", numbers(2), numbers(3), numbers(1, 7, 3), bytes([128, 0]), bytes([128] * 4), bytes([255] * 3))
+    for n in (0, 1, 2, 3, 254, 255, 256, 16_383, 16_384, LARGEST):
+        yield file(n=n)
+        yield file(n=n, r=2, s=2, k=1, row=(0, 1))
+        yield file(n=n, k=n - 1 if n else 0, figure=0)
+        yield file(n=n, k=n, figure=0)
+    for r in range(0, 8):
+        yield file(r=r, row=tuple(range(r)))
+    for s in range(0, 6):
+        yield file(s=s, k=6)
+        yield file(s=s, k=s, heads=[(1, 0)] * max(s - 1, 0) + [(1, 1)])
+    for k in (0, 1, 2, 3, 5, 6, 7, 8, 127, 128):
+        yield file(k=k, figure=0)
+    for figure in (0, 1, 2, 127, 128):
+        yield file(figure=figure)
+    for bound in (0, 1, 16_777_215, 16_777_216, 16_777_217, LARGEST):
+        yield file(heads=[(0, 0), (bound, 1)], figure=0 if bound else 1)
+        yield file(heads=[(bound, 1), (0, 0)], figure=0 if bound else 1)
+    for heads in ([(0, 0), (1, 0)], [(0, 1), (1, 1)], [(1, 1), (0, 0)], [(0, 2), (1, 0)], [(0, 0), (1, 2)]):
+        yield file(heads=heads, figure=0)
+    for row in ((0, 1, 1), (2, 1, 0), (0, 1, 7), (4, 5, 6), (0, 0, 0), (5, 6, 255), (0, 2, 1)):
+        yield file(row=row)
+    for tail in (b"\0", b"\1\2"):
+        yield file(tail=tail)
+    for b in (0, 1, 2, 127, 128, 4_095, 4_096, 4_097):
+        rows = min(b, 4_096)
+        yield file(b=b, heads=[(0, 0), (rows, b)], figure=max(rows - min(rows, rows * 3), 0))
+
+
+def check_inputs():
+    """Inputs of the program `check`."""
+    draw = random.Random(2311)
+    yield NINE
+    yield P
+    for at in range(len(NINE)):
+        yield NINE[:at]
+        for step in (1, 127, 128, 255):
+            yield NINE[:at] + bytes([(NINE[at] + step) % 256]) + NINE[at + 1:]
+    yield from edge_placements()
+    yield from largest_placements()
+    made = 0
+    while made < 360:
+        n, r, pack = random_pack(draw, extra=1)
+        reply = plan_reply(order(*random_order(draw, n, r)) + pack)
+        if reply.startswith(b"refused"):
+            continue
+        made += 1
+        yield reply
+        for _ in range(2):
+            yield damaged(draw, reply)
+        s = check_placement(reply)["s"]
+        yield renumbered(reply, draw.choice([6, 7 + 2 * draw.randrange(s)]), draw.choice([-1, 1]))
+
+
+def edge_plans():
+    for s in range(0, 6):
+        yield order(s, 3, 9) + P
+    for k in range(0, 9):
+        yield order(2, k, 9) + P
+    for b in (0, 1, 2, 7, 8, 9, 127, 128, 4_095, 4_096, 4_097, LARGEST):
+        yield order(2, 3, b) + P
+    yield from (b"", bytes([2]), bytes([2, 3]), bytes([2, 3, 9]), bytes([128, 0, 3, 9]) + P, bytes([2, 128, 0, 9]) + P,
+                bytes([2, 3, 128, 0]) + P, bytes([2, 3, 255, 255, 255, 255]) + P)
+    blockless = numbers(1, 3, 2, 1, 0, 1, 1) + bytes([0, 1])
+    for s in (1, 2):
+        yield order(s, 2, 5) + blockless
+    for mu in (0, 1, 4_096, 4_097):
+        yield order(1, 1, 4_096) + numbers(1, 3, 2, mu, 1, 1, 0) + bytes([0, 1])
+        yield order(2, 2, 4_096) + numbers(1, 3, 2, 1, 0, mu, 1) + bytes([0, 1])
+    for m in (0, 1, 2, 4_095, 4_096, 4_097):
+        yield order(2, 2, 300) + numbers(1, 3, 2, 4_096, m, 4_096, 0) + bytes([0, 2]) * min(m, 4_096)
+        yield order(2, 2, 300) + numbers(1, 3, 2, 4_096, m, 4_096, 1) + bytes([0, 2]) * (m + 1)
+    for n in (1, 2, 254, 255, 256):
+        yield order(1, 1, 3) + numbers(1, n, 2, 1, 1, 1, 0) + bytes([0, 1])
+    for at in range(len(P) + 1):
+        yield order(2, 3, 9) + P[:at]
+
+
+def plan_inputs():
+    """Inputs of the program `plan`."""
+    draw = random.Random(4097)
+    for s, k, b in [(2, 2, 7), (2, 3, 7), (2, 3, 9), (2, 2, 9), (3, 4, 7), (2, 2, 1)]:
+        yield order(s, k, b) + P
+    yield from edge_plans()
+    yield from largest_orders()
+    for _ in range(450):
+        n, r, pack = random_pack(draw, most=draw.choice([6, 20]), extra=draw.choice([2, 2, -1]))
+        s, k, b = random_order(draw, n, r, 40)
+        yield order(s, k, b) + pack
+        if draw.random() < 0.5:
+            yield order(s, k, b) + damaged(draw, pack)
+        if draw.random() < 0.2:
+            yield order(draw.randint(0, r + 1), draw.randint(0, n), draw.choice([0, b, 4_097])) + pack
