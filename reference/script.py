@@ -75,9 +75,11 @@ class Script:
         self.calls.append((name, own, self.input, answer))
 
     def lines(self):
-        """What vectors_test is to print: how many results of each call, how many refusals of each number, and none wrong."""
-        for name in CALLS:
-            yield " ".join([name, *(str(self.seen[name, kind]) for kind in range(13)), "0"]) + "\n"
+        """What vectors_test is to print: for each kind, a result or a refusal's number, each call's vectors; 13 are wrong ones."""
+        yield " ".join(["\nkind", *CALLS])
+        for kind in range(14):
+            yield " ".join([f"\n{kind}", *(str(self.seen[name, kind]) for name in CALLS)])
+        yield "\n"
 
 
 def answer(call, *args):

@@ -85,7 +85,7 @@ def call_walk(script, more=0):
         script.call("row_walk", [], [e.number, e.place], room=more)
         return
     at, r, b, end = reference.check_placement(script.input)["at"], len(rows[0]), len(rows), len(script.input)
-    script.call("row_walk", [], [0, at, r, b, b, b * r, end, 0, 0], room=b * r + more, written=b"".join(rows))
+    script.call("row_walk", [], [0, at, r, b, b, b * r, end, 0, 0, 0, end, 0, at, b], room=b * r + more, written=b"".join(rows))
 
 
 def reply_kind(reply):

@@ -2,7 +2,6 @@
 use layers::LayerHead;
 use number::NumberRead;
 use number::NumberWritten;
-use number::Reading;
 use pack::PackAnswer;
 use pack::PackCheck;
 use pack::PackHead;
@@ -23,7 +22,7 @@ pub(crate) fn unknown() -> [usize; 18] {
 }
 
 // Three numbers, and 0 after them.
-fn numbers(a: usize, b: usize, c: usize) -> [usize; 18] {
+pub(crate) fn numbers(a: usize, b: usize, c: usize) -> [usize; 18] {
     [a, b, c, 0, 0, 0, 0, 0, 0, 0, 0, 0, 0, 0, 0, 0, 0, 0]
 }
 
@@ -32,26 +31,16 @@ pub(crate) fn refused(e: Refusal) -> [usize; 18] {
     numbers(refusal_code::number(e), refusal_code::place(e), 0)
 }
 
-// One value.
-pub(crate) fn one(value: usize) -> [usize; 18] {
-    numbers(0, value, 0)
-}
-
-// The value and the next place.
-fn reading(number: Reading) -> [usize; 18] {
-    numbers(0, number.value, number.next)
-}
-
 pub(crate) fn number_read(read: NumberRead) -> [usize; 18] {
     match read {
-        NumberRead::Value(number) => reading(number),
+        NumberRead::Value(number) => numbers(0, number.value, number.next),
         NumberRead::Refused(e) => refused(e),
     }
 }
 
 pub(crate) fn number_written(written: NumberWritten) -> [usize; 18] {
     match written {
-        NumberWritten::Written(n) => one(n),
+        NumberWritten::Written(n) => numbers(0, n, 0),
         NumberWritten::Refused(e) => refused(e),
     }
 }
@@ -156,7 +145,7 @@ pub(crate) fn row_found(found: RowFound) -> [usize; 18] {
 
 pub(crate) fn replied(reply: Reply) -> [usize; 18] {
     match reply {
-        Reply::Written(n) => one(n),
+        Reply::Written(n) => numbers(0, n, 0),
         Reply::Refused(e) => refused(e),
     }
 }

@@ -18,7 +18,7 @@ pub(crate) fn entry_of(fill: u8) -> u16 {
 }
 
 // The byte of `written` at `i`, `fill` past its end.
-fn byte_at(written: &[u8], i: usize, fill: u8) -> u8 {
+pub(crate) fn byte_at(written: &[u8], i: usize, fill: u8) -> u8 {
     if i < written.len() {
         return written[i];
     }

@@ -107,5 +107,5 @@ fn main() {
     let mut written = [0u8; LENT_MOST];
     let mut counts = [0usize; tell::COUNTS];
     run(&mut bytes, &mut written, &mut counts);
-    tell::tell_calls(&counts);
+    tell::tell_kinds(&counts);
 }

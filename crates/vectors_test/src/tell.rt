@@ -1,17 +1,13 @@
 // Counting the vectors of each call, and printing the counts.
 use libc::STDOUT_FILENO;
 
-// The counts: for each call, how many vectors agreed for each refusal's number (0 for a result), and how many did not. The
-// first count is that of all vectors.
+// The counts, a line of 14 for each refusal's number (0 for a result) and one for the vectors that do not agree; a line has a
+// place for each call, and its first count on the first line is that of all vectors.
 pub(crate) const COUNTS: usize = 14 * 14;
 
-// One more of the count at `i`; a count stops at a million.
-fn raise(counts: &mut [usize], i: usize) {
-    if i < counts.len() {
-        if counts[i] < 1_000_000 {
-            counts[i] += 1;
-        }
-    }
+// Where the count of a kind and a call stands; 13 is the kind of those that do not agree.
+fn place_of(kind: usize, call: usize) -> usize {
+    14 * (kind % 14) + call % 14
 }
 
 // The count at `i`.
@@ -22,70 +18,58 @@ fn at(counts: &[usize], i: usize) -> usize {
     0
 }
 
-// Where the count of a call and kind stands; 13 is the kind of those that do not agree.
-fn place_of(call: usize, kind: usize) -> usize {
-    14 * (call % 14) + kind % 14
+// One more of the count at `i`, which is answered; a count stops at a million.
+fn raise(counts: &mut [usize], i: usize) -> usize {
+    if counts.len() <= i {
+        return 0;
+    }
+    let n = counts[i];
+    if 1_000_000 < n {
+        return n;
+    }
+    counts[i] = n + 1;
+    n + 1
 }
 
 fn say(text: &[u8]) {
     io::write_all(STDOUT_FILENO, text);
 }
 
-// A space and a number.
-fn put(n: usize) {
-    say(b" ");
+fn put(text: &[u8], n: usize) {
+    say(text);
     io::print_decimal(STDOUT_FILENO, n as u64);
-}
-
-// The line of a vector that does not agree.
-fn tell_wrong(n: usize) {
-    say(b"wrong: vector");
-    put(n);
-    say(b"\n");
 }
 
 // Counts a vector, and says which one does not agree.
 pub(crate) fn count(counts: &mut [usize], call: usize, kind: usize, good: bool) {
-    raise(counts, 0);
+    let vector = raise(counts, 0);
     if good {
-        raise(counts, place_of(call, kind));
+        raise(counts, place_of(kind, call));
         return;
     }
-    raise(counts, place_of(call, 13));
-    tell_wrong(at(counts, 0));
+    raise(counts, place_of(13, call));
+    put(b"\nwrong: ", vector);
 }
 
-// The counts of a call.
-fn tell_kinds(call: usize, counts: &[usize]) {
-    let mut kind: usize = 0;
-    while kind < 14 {
-        put(at(counts, place_of(call, kind)));
-        kind += 1;
+// The line of a kind: each call's count.
+fn tell_kind(kind: usize, counts: &[usize]) {
+    let mut call: usize = 4;
+    put(b"\n", kind);
+    while call < 14 {
+        put(b" ", at(counts, place_of(kind, call)));
+        call += 1;
     }
 }
 
-// The line of a call.
-fn tell_call(name: &[u8], call: usize, counts: &[usize]) {
-    say(name);
-    tell_kinds(call, counts);
+// The names of the calls, and a line for each kind; the last is that of vectors that do not agree.
+pub(crate) fn tell_kinds(counts: &[usize]) {
+    let mut kind: usize = 0;
+    say(
+        b"\nkind read_number read_within check_pack check_placement first_crowded write_number plan row_walk check_reply plan_reply",
+    );
+    while kind < 14 {
+        tell_kind(kind, counts);
+        kind += 1;
+    }
     say(b"\n");
-}
-
-// The lines of the calls that write nothing.
-fn tell_told(counts: &[usize]) {
-    tell_call(b"read_number", 4, counts);
-    tell_call(b"read_within", 5, counts);
-    tell_call(b"check_pack", 6, counts);
-    tell_call(b"check_placement", 7, counts);
-    tell_call(b"first_crowded", 8, counts);
-}
-
-// The lines of all calls: how many results, of each refusal from 1 to 12, and wrong ones.
-pub(crate) fn tell_calls(counts: &[usize]) {
-    tell_told(counts);
-    tell_call(b"write_number", 9, counts);
-    tell_call(b"plan", 10, counts);
-    tell_call(b"row_walk", 11, counts);
-    tell_call(b"check_reply", 12, counts);
-    tell_call(b"plan_reply", 13, counts);
 }

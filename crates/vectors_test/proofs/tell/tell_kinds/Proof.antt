@@ -5,22 +5,22 @@ use Rattle.vectors_test.proofs.tell.tell_kinds.Statement.{statement}
 use Rattle.vectors_test.proofs.tell.tell_kinds.Tie as tie
 
 abbrev Inv-loop : tie.InvT-loop
-Inv-loop call counts kind₀ kind = kind ≤ 14
+Inv-loop counts kind₀ t4 kind = kind ≤ 14
 
 abbrev μ-loop : tie.MeasureT-loop
-μ-loop call counts kind₀ kind = 14 - kind
+μ-loop counts kind₀ t4 kind = 14 - kind
+
+slice-aggregate-say : tie.Need-slice-aggregate-say Inv-loop μ-loop
+slice-aggregate-say c = search needs
+
+say-requires : tie.Need-say-requires Inv-loop μ-loop
+say-requires c κs = search needs
 
 loop-holds : tie.Need-loop-holds Inv-loop μ-loop
 loop-holds c = search needs
 
-place-of-requires : tie.Need-place-of-requires Inv-loop μ-loop
-place-of-requires c κs = search needs
-
-at-requires : tie.Need-at-requires Inv-loop μ-loop
-at-requires c κs = search needs
-
-put-requires : tie.Need-put-requires Inv-loop μ-loop
-put-requires c κs = search needs
+tell-kind-requires : tie.Need-tell-kind-requires Inv-loop μ-loop
+tell-kind-requires c κs = search needs
 
 add-kind : tie.Need-add-kind Inv-loop μ-loop
 add-kind c = search needs
@@ -31,6 +31,12 @@ loop-less c = search needs
 loop-again : tie.Need-loop-again Inv-loop μ-loop
 loop-again c = search needs
 
+slice-aggregate-say-2 : tie.Need-slice-aggregate-say-2 Inv-loop μ-loop
+slice-aggregate-say-2 c = search needs
+
+say-requires-2 : tie.Need-say-requires-2 Inv-loop μ-loop
+say-requires-2 c κs = search needs
+
 returns : tie.Need-returns Inv-loop μ-loop
 returns c = search needs
 
@@ -40,11 +46,13 @@ tell-kinds-spec =
     (tie.spec
     Inv-loop
     μ-loop
+    slice-aggregate-say
+    say-requires
     loop-holds
-    place-of-requires
-    at-requires
-    put-requires
+    tell-kind-requires
     add-kind
     loop-less
     loop-again
+    slice-aggregate-say-2
+    say-requires-2
     returns)
