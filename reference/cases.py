@@ -104,6 +104,13 @@ def edge_placements():
         yield file(b=b, heads=[(0, 0), (rows, b)], figure=max(rows - min(rows, rows * 3), 0))
 
 
+def half_means():
+    """Placements of 1 to 16 records of 2 replicas on 4 nodes: every second mean has a half (document 02 (a))."""
+    pack = numbers(1, 4, 2, 1, 2, 1, 6) + bytes([0, 1, 2, 3, 0, 1, 0, 2, 0, 3, 1, 2, 1, 3, 2, 3])
+    for b in range(1, 17):
+        yield plan_reply(order(1, 1, b) + pack)
+
+
 def check_inputs():
     """Inputs of the program `check`."""
     draw = random.Random(2311)
@@ -115,6 +122,7 @@ def check_inputs():
             yield NINE[:at] + bytes([(NINE[at] + step) % 256]) + NINE[at + 1:]
     yield from edge_placements()
     yield from largest_placements()
+    yield from half_means()
     made = 0
     while made < 360:
         n, r, pack = random_pack(draw, extra=1)

@@ -1,8 +1,10 @@
-"""Document 01 in its simplest form: packs, placements, planning, the row walk and the two programs' replies.
+"""Document 01 in its simplest form: packs, placements, planning, the row walk and the two programs' replies; with document
+02's request (a).
 
-Written from document 01 alone, with brute force where it can. Standard library only.
+Written from the documents alone, with brute force where it can. Standard library only.
 """
 from collections import Counter
+from fractions import Fraction
 from functools import lru_cache
 from itertools import combinations, product
 from math import comb
@@ -267,7 +269,7 @@ def check_reply(data):
         return f"refused {e.number} {e.place}\n".encode()
     rows = [row for _, layer in p["layers"] for row in layer]
     most = max(sum(node in row for row in rows) for node in range(p["n"]))
-    mean = (2 * p["b"] * p["r"] + p["n"]) // (2 * p["n"])
+    mean = round(Fraction(p["b"] * p["r"], p["n"]))  # document 02 (a): half to even, as Python rounds
     return f"accepted {p['F']} {p['b']} {p['k']} {p['n']} {most} {mean}\n".encode()
 
 

@@ -8,6 +8,7 @@ sys.path.insert(0, str(Path(__file__).resolve().parent))
 
 from document01 import (Refused, check_pack, check_placement, check_reply, comb, figure, first_crowded, named_split,
                         named_split_by_force, number_bytes, plan, plan_reply, read_number, together, walk, worst_case)
+from cases import half_means
 from limits import largest_placements
 
 ROWS = "012 345 012 034 056 135 146 236 245".split()
@@ -57,6 +58,8 @@ class Examples(unittest.TestCase):
 
     def test_programs(self):
         self.assertEqual(check_reply(NINE), b"accepted 5 9 3 7 4 4\n")
+        means = [int(check_reply(placement).split()[-1]) for placement in half_means()]
+        self.assertEqual(means, [0, 1, 2, 2, 2, 3, 4, 4, 4, 5, 6, 6, 6, 7, 8, 8])
         self.assertEqual(plan_reply(bytes([2, 3, 9]) + P), NINE)
         self.assertEqual(plan_reply(bytes([2, 128])), b"refused 12 1\n")
         self.assertEqual(plan_reply(bytes([2, 3, 9])), b"refused 1 0\n")

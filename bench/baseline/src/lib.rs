@@ -36,11 +36,21 @@ pub fn write_output(bytes: &[u8]) {
     }
 }
 
+/// total / n to the nearest whole, a half going to the even one.
+fn half_to_even(total: usize, n: usize) -> usize {
+    let whole = total / n;
+    match (2 * (total % n)).cmp(&n) {
+        std::cmp::Ordering::Less => whole,
+        std::cmp::Ordering::Greater => whole + 1,
+        std::cmp::Ordering::Equal => whole + whole % 2,
+    }
+}
+
 /// What `check` prints for these bytes.
 pub fn check_reply<T: PackingTest>(input: &[u8]) -> Vec<u8> {
     match Placement::check::<T>(input) {
         Ok(p) => {
-            let mean = (2 * p.b * p.r + p.n) / (2 * p.n);
+            let mean = half_to_even(p.b * p.r, p.n);
             text::line("accepted", &[p.figure, p.b, p.k, p.n, p.most, mean])
         }
         Err(e) => refused_line(e),

@@ -3,4 +3,5 @@ pub mod Planned
 pub mod Programs
 pub mod Answers
 pub mod Refusals
+pub mod Requests
 pub mod Starred

@@ -12,18 +12,29 @@ use Rattle.pack.specs.SevenCabinets.{packBytes}
 use Rattle.placement.specs.SevenCabinets.{placementFile, sevenPlacement}
 use Rattle.placement.proofs.Worked.{placements}
 use Rattle.planner.proofs.Worked.{orders}
-use Rattle.report.specs.Load.{mean}
+use Rattle.report.specs.Load.{halfToEven, mean}
 use Rattle.report.specs.Programs.{digits, decimal, rest, acceptedWord, acceptedLine, summary, orRefusedLine, checkLine, readOrder, planInput, plannedReply, planReply}
 use Rattle.report.specs.Replies.{planSlices, checkInto, planInto}
 
 -- "`check` prints `accepted 5 9 3 7 4 4`"; `plan` with the numbers 2 3 9 and then P writes the whole file
 pub lines : (checkLine (placementFile 5) ≡ acceptedWord ++ (32 ∷ 53 ∷ 32 ∷ 57 ∷ 32 ∷ 51 ∷ 32 ∷ 55 ∷ 32 ∷ 52 ∷ 32 ∷ 52 ∷ 10 ∷ []))
     × (planReply (2 ∷ 3 ∷ 9 ∷ packBytes row245) ≡ placementFile 5)
-unfolding count largest upTo flatten member readGroups readNumber packBytes sevenPlacement mean digits decimal rest summary checkLine readOrder planInput plannedReply planReply
+unfolding count largest upTo flatten member readGroups readNumber packBytes sevenPlacement halfToEven digits decimal rest summary checkLine readOrder planInput plannedReply planReply
 lines = (
   ap (λ a. orRefusedLine (mapAccepted (λ p. acceptedLine (summary p)) a)) (placements .1),
   ap plannedReply (orders .6) ∙ orders .7,
 )
+
+-- (a) "5 records of 2 replicas on 4 nodes make 2.5 and print 2, where 3 stood; 3.5 prints 4"; 0.5, 1.5, and two means with no
+-- half: 27/7 and 10/3
+pub means : (mean 5 2 4 ≡ 2)
+    × (mean 7 2 4 ≡ 4)
+    × (mean 1 2 4 ≡ 0)
+    × (mean 3 2 4 ≡ 2)
+    × (mean 9 3 7 ≡ 4)
+    × (mean 5 2 3 ≡ 3)
+unfolding halfToEven
+means = (refl, refl, refl, refl, refl, refl)
 
 -- a slice one byte or entry short is refused with what is needed, 10 before 11, and one of that length is taken
 pub lent : (input : List ℕ)

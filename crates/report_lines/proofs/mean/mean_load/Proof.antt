@@ -1,34 +1,72 @@
--- `report_lines::mean::mean_load` meets its contract: b × r is at most 4,096 × 5. Assumes nothing.
-use Prim.Native.Nat.{_*_, _≤_}
+-- `report_lines::mean::mean_load` meets its contract: b × r is at most 4,096 × 5, and each return is a case of `halfToEven`.
+-- Assumes nothing.
+use Prim.Native.Nat.{_*_, _/_, _%_, _≤_, _<_}
 use native.Mathlib.Omega.{arith}
-use native.Mathlib.Nat.{mul-le-mul}
+use native.Mathlib.Numerals.{add-one}
+use native.Mathlib.Nat.{mul-le-mul, mod-lt, div-le-self}
+use borrow.Author.Tests.{lt-ltb, le-ltb}
+use Rattle.report.specs.Load.{halfToEven}
 use borrow.Author.Needs.{needs}
-use Rattle.report.specs.Load.{mean}
 use Rattle.report_lines.proofs.mean.mean_load.Statement.{statement}
 use Rattle.report_lines.proofs.mean.mean_load.Tie as tie
 
+-- b × r, the whole part and the rest are small
 product : (c : tie.Start) → c .args .b * c .args .r ≤ 20_480
 product c = mul-le-mul (c .pre .0) (c .pre .1)
 
-mul-result : tie.Need-mul-result
-mul-result c = omega (arith, product c)
+whole : (c : tie.Start) → c .args .b * c .args .r / c .args .n ≤ c .args .b * c .args .r
+whole c = div-le-self (c .args .b * c .args .r) (c .args .n)
 
-mul-result-2 : tie.Need-mul-result-2
-mul-result-2 c = omega (arith, product c)
+part : (c : tie.Start) → c .args .b * c .args .r % c .args .n < c .args .n
+part c = mod-lt (c .args .b * c .args .r) (c .pre .2)
 
-add-result : tie.Need-add-result
-add-result c = omega (arith, product c)
+mul-total : tie.Need-mul-total
+mul-total c =
+    omega (arith, product c)
 
-mul-result-3 : tie.Need-mul-result-3
-mul-result-3 c = search needs
+div-whole : tie.Need-div-whole
+div-whole c = search needs
 
-div-result : tie.Need-div-result
-div-result c = search needs
+rem-twice : tie.Need-rem-twice
+rem-twice c = search needs
+
+mul-twice : tie.Need-mul-twice
+mul-twice c =
+    omega (arith, part c, c .pre)
 
 returns : tie.Need-returns
-unfolding mean
-returns c = search needs
+unfolding halfToEven
+returns c =
+    rw (lt-ltb _ _ (c .if1 .taken))
+
+add-result : tie.Need-add-result
+add-result c =
+    omega (arith, product (c .before .before), whole (c .before .before))
+
+returns-2 : tie.Need-returns-2
+unfolding halfToEven
+returns-2 c =
+    rw (add-one, le-ltb _ _ (c .before .if1 .left), lt-ltb _ _ (c .if2 .taken))
+
+add-result-2 : tie.Need-add-result-2
+add-result-2 c =
+    omega (arith, product (c .before .before), whole (c .before .before))
+
+returns-3 : tie.Need-returns-3
+unfolding halfToEven
+returns-3 c =
+    rw (le-ltb _ _ (c .before .if1 .left), le-ltb _ _ (c .if2 .left))
 
 pub mean-load-spec : {M : Type 1} → statement M
 mean-load-spec =
-    tie.close (tie.spec mul-result mul-result-2 add-result mul-result-3 div-result returns)
+    tie.close
+    (tie.spec
+    mul-total
+    div-whole
+    rem-twice
+    mul-twice
+    returns
+    add-result
+    returns-2
+    add-result-2
+    returns-3)
