@@ -68,6 +68,25 @@ def renumbered(data, index, change):
     return data[:start] + number_bytes(max(0, value + change)) + data[at:]
 
 
+def in_groups(v, size):
+    """The number in so many groups, or in as many as it needs."""
+    size = max(size, len(number_bytes(v)))
+    return bytes(v // 128 ** i % 128 + (128 if i < size - 1 else 0) for i in range(size))
+
+
+def padded(data, count):
+    """The file with each of its first `count` numbers padded to two, three and four groups, one at a time and all at once
+    (document 02 (b))."""
+    head, at = [], 0
+    for _ in range(count):
+        v, at = read_number(data, at)
+        head.append(v)
+    for size in (2, 3, 4):
+        for index in range(count):
+            yield b"".join(in_groups(v, size if i == index else 1) for i, v in enumerate(head)) + data[at:]
+        yield b"".join(in_groups(v, size) for v in head) + data[at:]
+
+
 def edge_placements():
     """Both sides of each limit of a placement's head; the rows are those of one layer."""
     def file(n=7, r=3, s=2, k=3, b=1, figure=None, heads=None, row=(0, 1, 2), kind=2, tail=b""):

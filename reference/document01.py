@@ -1,5 +1,5 @@
 """Document 01 in its simplest form: packs, placements, planning, the row walk and the two programs' replies; with document
-02's request (a).
+02's requests (a) and (b).
 
 Written from the documents alone, with brute force where it can. Standard library only.
 """
@@ -43,9 +43,7 @@ def read_number(data, at):
         byte = data[at + group]
         value += (byte % 128) * 128 ** group
         if byte < 128:
-            if byte == 0 and group > 0:
-                raise Refused(2, at)
-            return value, at + group + 1
+            return value, at + group + 1  # document 02 (b): a zero last group too
     raise Refused(2, at)
 
 

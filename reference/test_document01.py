@@ -8,7 +8,7 @@ sys.path.insert(0, str(Path(__file__).resolve().parent))
 
 from document01 import (Refused, check_pack, check_placement, check_reply, comb, figure, first_crowded, named_split,
                         named_split_by_force, number_bytes, plan, plan_reply, read_number, together, walk, worst_case)
-from cases import half_means
+from cases import half_means, padded
 from limits import largest_placements
 
 ROWS = "012 345 012 034 056 135 146 236 245".split()
@@ -33,10 +33,19 @@ class Examples(unittest.TestCase):
         for v, form in forms.items():
             self.assertEqual(number_bytes(v), bytes(form))
             self.assertEqual(read_number(bytes(form), 0), (v, len(form)))
-        self.assertEqual(refusal(read_number, bytes([128, 0]), 0), (2, 0))
+        self.assertEqual(read_number(bytes([128, 0]), 0), (0, 2))
+        self.assertEqual(read_number(bytes([172, 130, 128, 0]), 0), (300, 4))
         self.assertEqual(refusal(read_number, bytes([128] * 4), 0), (2, 0))
         self.assertEqual(refusal(read_number, bytes([128] * 3), 0), (1, 3))
         self.assertEqual(refusal(read_number, b"", 9), (1, 0))
+
+    def test_padding(self):
+        for pack in padded(P, 9):
+            self.assertEqual(check_pack(pack)["layers"], check_pack(P)["layers"])
+        for placement in padded(NINE, 11):
+            self.assertEqual(check_reply(placement), check_reply(NINE))
+        for data in padded(bytes([2, 3, 9]) + P, 12):
+            self.assertEqual(plan_reply(data), NINE)
 
     def test_pack(self):
         self.assertEqual(len(P), 36)

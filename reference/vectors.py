@@ -13,7 +13,7 @@ from pathlib import Path
 sys.path.insert(0, str(Path(__file__).resolve().parent.parent / "packings"))
 
 import document01 as reference  # noqa: E402
-from cases import NINE, P, check_inputs, plan_inputs, random_rows  # noqa: E402
+from cases import NINE, P, check_inputs, in_groups, padded, plan_inputs, random_rows  # noqa: E402
 from check_packings import pack_bytes  # noqa: E402
 from constructions import catalogue  # noqa: E402
 from document01 import LARGEST, Refused, numbers  # noqa: E402
@@ -257,9 +257,35 @@ def published_vectors(script):
             call_walk(script)
 
 
+def padded_vectors(script):
+    """Every head number padded: packs, placements and orders, good ones and ones that are bad further on."""
+    for data in (P, P[:-1], P + b"\0", P[:27] + bytes([6]) + P[28:], numbers(1, 7, 3, 1, 2, 1, 7, 0, 0) + P[9:]):
+        for pack in padded(data, 9):
+            script.read(pack)
+            call_check_pack(script)
+            call_plan(script, 2, 3, 9, 20, 91)
+    wrong = NINE[:6] + bytes([4]) + NINE[7:]
+    for data in (NINE, NINE[:-1], NINE + b"\0", wrong, NINE[:-1] + bytes([6]), numbers(2, 7, 3, 2, 3, 9, 5, 1, 3, 1, 6) + NINE[11:]):
+        for placement in padded(data, 11):
+            script.read(placement)
+            call_check_placement(script)
+            call_check_reply(script)
+            call_walk(script)
+    for order in (numbers(2, 3, 9), numbers(2, 7, 9), numbers(2, 3, 300)):
+        for data in padded(order + P, 12):
+            script.read(data)
+            call_plan_reply(script)
+    for v in (0, 5, 128, 300, 16_384, LARGEST):
+        for size in (1, 2, 3, 4):
+            script.read(in_groups(v, size) + b"\7")
+            call_read(script, 0)
+            call_read_within(script, 0, 0, 300)
+
+
 def script_of_all():
     script = Script()
-    for vectors in (number_vectors, small_files, placement_vectors, plan_vectors, crowding_vectors, published_vectors):
+    for vectors in (number_vectors, small_files, placement_vectors, plan_vectors, padded_vectors, crowding_vectors,
+                    published_vectors):
         vectors(script)
     return script
 

@@ -31,9 +31,6 @@ impl<'a> Reader<'a> {
             };
             value |= usize::from(byte & 127) << (7 * group);
             if byte < 128 {
-                if byte == 0 && group > 0 {
-                    break;
-                }
                 self.at = start + group + 1;
                 return Ok(value);
             }
@@ -83,13 +80,26 @@ mod tests {
     }
 
     #[test]
+    fn padded_forms_are_read() {
+        for (value, form) in [
+            (0, &[128, 0][..]),
+            (127, &[255, 0]),
+            (300, &[172, 130, 0]),
+            (2_097_151, &[255, 255, 255, 0]),
+        ] {
+            let mut reader = Reader::new(form);
+            assert_eq!(reader.number(), Ok(value));
+            assert_eq!(reader.at, form.len());
+        }
+    }
+
+    #[test]
     fn bad_forms_are_refused() {
         for (form, number, place) in [
             (&[][..], 1, 0),
             (&[255, 255], 1, 2),
-            (&[128, 0], 2, 0),
             (&[128, 128, 128, 128], 2, 0),
-            (&[255, 255, 255, 0], 2, 0),
+            (&[128, 128, 128, 128, 0], 2, 0),
         ] {
             assert_eq!(Reader::new(form).number(), refused(number, place));
         }

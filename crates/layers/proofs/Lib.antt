@@ -11,3 +11,4 @@ pub mod Worked
 pub mod Answered
 pub mod Meaning
 pub mod KindMeaning
+pub mod Padding

@@ -10,12 +10,26 @@ use Rattle.lists.specs.Lists.{All}
 use Rattle.lists.proofs.Alls.{all-append}
 use Rattle.lists.proofs.Counts.{flatten-append}
 use Rattle.number.specs.Numbers.{Bytes, Forms, formsOf, largestNumber, numberBytes}
-use Rattle.number.proofs.Laws.{form-bytes}
+use Rattle.number.proofs.Laws.{form-bytes, form-most, form-numberBytes, form-shortest}
 
 pub forms-of : (vs : List ℕ) → All (λ v. v ≤ largestNumber) vs → Forms vs (formsOf vs)
 unfolding flatten
 forms-of [] h = refl
-forms-of (v ∷ vs) h = (numberBytes v, formsOf vs, refl, (h .0, refl), forms-of vs (h .1))
+forms-of (v ∷ vs) h = (numberBytes v, formsOf vs, refl, form-numberBytes v (h .0), forms-of vs (h .1))
+
+-- numbers that have forms are within limits
+pub forms-most : (vs f : List ℕ) → Forms vs f → All (λ v. v ≤ largestNumber) vs
+forms-most [] f h = tt
+forms-most (v ∷ vs) f (g, rest, e, form, h) = (form-most form, forms-most vs rest h)
+
+-- no forms of the numbers are shorter than the shortest
+pub forms-shortest : (vs f : List ℕ) → Forms vs f → length (formsOf vs) ≤ length f
+unfolding flatten
+forms-shortest [] f h = omega arith
+forms-shortest (v ∷ vs) f (g, rest, e, form, h) =
+    let first = form-shortest form in
+    let others = forms-shortest vs rest h in
+    rw (e, length-append g rest, length-append (numberBytes v)) (omega arith)
 
 -- forms are bytes
 pub forms-bytes : (vs : List ℕ) (f : List ℕ) → Forms vs f → Bytes f

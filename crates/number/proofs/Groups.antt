@@ -1,4 +1,4 @@
--- What the groups of a number are: their count, their bytes. Assumes nothing.
+-- What the groups of a number are: their count, their bytes, what they count up to. Assumes nothing.
 use Prim.Native.Nat.{ℕ, zero, suc, _+_, _*_, _/_, _%_, _≤_, _<_}
 use native.Mathlib.Omega.{arith}
 use native.Mathlib.Nat.{le-refl}
@@ -7,7 +7,7 @@ use mathlib.Core.List.{List, [], _∷_}
 use lib.ListN.{length}
 use lib.Dec.{ltb}
 use borrow.Author.Tests.{ltb-true, ltb-false, lt-ltb, le-ltb}
-use Rattle.number.specs.Numbers.{groups, Bytes}
+use Rattle.number.specs.Numbers.{groups, Bytes, Grouped, countUp}
 use Rattle.lists.proofs.Tests.{cond-elim}
 
 -- how many numbers n groups of seven bits hold
@@ -81,14 +81,47 @@ groups-length-le-more (suc more) v =
     (λ small. omega arith)
     (λ large. omega (arith, groups-length-le-more more (v / 128)))
 
--- where v fits, every group is a byte
-pub groups-bytes : (more v : ℕ) → v < capacity (suc more) → Bytes (groups more v)
+-- a group with the top bit set, before others
+pub grouped-cons : (byte : ℕ) (f : List ℕ) → 128 ≤ byte → byte < 256 → Grouped f → Grouped (byte ∷ f)
+grouped-cons byte [] top small h = absurd h
+grouped-cons byte (next ∷ f) top small h = (top, small, h)
+
+-- where v fits, the groups are groups, and count up to v
+pub groups-grouped : (more v : ℕ) → v < capacity (suc more) → Grouped (groups more v)
 unfolding groups
-groups-bytes zero v h = (omega arith, tt)
-groups-bytes (suc more) v h =
+groups-grouped zero v h = omega arith
+groups-grouped (suc more) v h =
     groups-elim
-    Bytes
+    Grouped
     more
     v
-    (λ small. (omega arith, tt))
-    (λ large. (omega arith, groups-bytes more (v / 128) (omega arith)))
+    (λ small. small)
+    (λ large. grouped-cons (128 + v % 128) (groups more (v / 128)) (omega arith) (omega arith) (groups-grouped more (v / 128) (omega arith)))
+
+pub groups-countUp : (more v : ℕ) → v < capacity (suc more) → countUp (groups more v) ≡ v
+unfolding groups countUp
+groups-countUp zero v h = omega arith
+groups-countUp (suc more) v h =
+    groups-elim
+    (λ g. countUp g ≡ v)
+    more
+    v
+    (λ small. omega arith)
+    (λ large. let rest = groups-countUp more (v / 128) (omega arith) in omega arith)
+
+-- n groups count up to less than what they hold
+pub countUp-lt : (f : List ℕ) (n : ℕ) → length f ≤ n → countUp f < capacity n
+unfolding countUp
+countUp-lt [] n h = capacity-pos n
+countUp-lt (byte ∷ f) zero h = absurd (omega arith)
+countUp-lt (byte ∷ f) (suc n) h = let rest = countUp-lt f n (omega arith) in omega arith
+
+-- groups are at least one, and bytes
+pub grouped-length-pos : (f : List ℕ) → Grouped f → 1 ≤ length f
+grouped-length-pos [] h = absurd h
+grouped-length-pos (byte ∷ f) h = omega arith
+
+pub grouped-bytes : (f : List ℕ) → Grouped f → Bytes f
+grouped-bytes [] h = tt
+grouped-bytes (byte ∷ []) h = (omega arith, tt)
+grouped-bytes (byte ∷ next ∷ f) (top, small, h) = (small, grouped-bytes (next ∷ f) h)

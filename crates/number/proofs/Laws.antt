@@ -1,37 +1,30 @@
--- Reading a number and its form are two sides of one thing: what is read is a form, and a form is read. Assumes nothing.
-use Prim.Native.Nat.{ℕ, _+_, _≤_, _<_}
+-- Reading a number and its forms are two sides of one thing: what is read is a form, and a form is read. Assumes nothing.
+use Prim.Native.Nat.{ℕ, suc, _+_, _-_, _≤_, _<_}
 use native.Mathlib.Omega.{arith}
-use native.Mathlib.Nat.{zero-add, one-mul, le-refl}
-use mathlib.Core.Path.{_≡_, refl, sym, _∙_, ap}
-use mathlib.Core.Logic.{_⊎_}
-use mathlib.Core.List.{List, [], _++_}
-use lib.ListN.{length, take, drop}
-use lib.Seq.{slice, drop-append-seam}
+use native.Mathlib.Nat.{zero-add, one-mul}
+use mathlib.Core.Path.{_≡_, sym, _∙_, ap}
+use mathlib.Core.Logic.{_↔_, _⊎_}
+use mathlib.Core.List.{List, _++_}
+use lib.ListN.{length, take, drop, length-drop, take-append-drop}
+use lib.Seq.{slice, drop-append-le, drop-append-seam, length-take-le}
 use Rattle.refusal.specs.declared.Refusal.{Refusal}
 use Rattle.refusal.specs.declared.Refusal.the-variants.{Ended, Malformed}
 use Rattle.refusal.specs.Checked.{accepted, refused}
-use Rattle.number.specs.Numbers.{Bytes, Form, largestNumber, groups, numberBytes, readNumber}
+use Rattle.number.specs.Numbers.{Bytes, Form, largestNumber, numberBytes, readNumber}
 use Rattle.number.specs.declared.Reading.{Reading}
-use Rattle.number.proofs.Groups.{capacity, groups-small, groups-bytes, groups-length-pos, groups-length-le}
-use Rattle.refusal.proofs.Checked.{accepted-injective}
-use Rattle.number.proofs.ReadGroups.{groups-readGroups, readGroups-groups, readGroups-next, readGroups-refused, readGroups-take}
+use Rattle.number.proofs.Groups.{capacity, groups-small, groups-grouped, groups-countUp, groups-length-le, groups-length-le-more, countUp-lt, grouped-length-pos, grouped-bytes}
+use Rattle.number.proofs.ReadGroups.{grouped-readGroups, readGroups-grouped, readGroups-next, readGroups-refused, readGroups-take}
 
 -- "The largest is 268,435,455": a number fits four groups.
 fits-four : (v : ℕ) → v ≤ largestNumber → v < capacity 4
 fits-four v h = omega arith
 
 -- A form is read wherever it stands: its number, and the place after it.
-form-read-at : {v : ℕ} {g : List ℕ} (s t : List ℕ) (at : ℕ) → Form v g → drop at s ≡ g ++ t
+pub form-read-at : {v : ℕ} {g : List ℕ} (s t : List ℕ) (at : ℕ) → Form v g → drop at s ≡ g ++ t
     → readNumber s at ≡ accepted (record { value = v; next = at + length g })
-unfolding readNumber numberBytes
+unfolding readNumber
 form-read-at {v} {g} s t at form e =
-    let stands : drop at s ≡ groups 3 v ++ t = e ∙ ap (λ (f : List ℕ). f ++ t) (form .1) in
-    rw
-    (form .1)
-    (rw
-    (one-mul v, zero-add v)
-    at
-    (readGroups-groups 3 v s t at at 1 0 stands (fits-four v (form .0)) (λ after. omega arith) (le-refl at)))
+    rw (one-mul, zero-add, form .counts) at (readGroups-grouped 3 g s t at at 1 0 e (form .grouped) (form .most-four))
 
 -- The same after any bytes: the number that stands between pre and t is read.
 pub form-read : {v : ℕ} {g : List ℕ} (pre t : List ℕ) → Form v g
@@ -47,6 +40,17 @@ read-next s at {n} e =
     let place = readGroups-next 4 s at at 1 0 n e in
     (place .1, place .0, place .2)
 
+-- the bytes between two places are as many as the second is further on
+slice-length : (s : List ℕ) (at next : ℕ) → next ≤ length s → length (slice at next s) ≡ next - at
+slice-length s at next h = length-drop at (take next s) ∙ rw (length-take-le next s h)
+
+-- Request (b): reading "gives the length taken", 1 to 4: the next place less the start.
+pub read-length : (s : List ℕ) (at : ℕ) {n : Reading} → readNumber s at ≡ accepted n
+    → (length (slice at (n .next) s) ≡ n .next - at) × (1 ≤ n .next - at) × (n .next - at ≤ 4)
+read-length s at {n} e =
+    let place = read-next s at e in
+    (slice-length s at (n .next) (place .2), omega arith, omega arith)
+
 -- A refused reading is refusal 1 at the input's length or refusal 2 at the number's start.
 pub read-refused : (s : List ℕ) (at : ℕ) {why : Refusal} → readNumber s at ≡ refused why
     → (why ≡ Ended (length s)) ⊎ (why ≡ Malformed at)
@@ -56,42 +60,69 @@ read-refused s at {why} e = readGroups-refused 4 s at at 1 0 why e
 -- What is read is a form: the bytes from the number's start to the next place.
 pub read-form : (s : List ℕ) (at : ℕ) {n : Reading} → Bytes s → readNumber s at ≡ accepted n
     → (at < n .next) × (n .next ≤ length s) × Form (n .value) (slice at (n .next) s)
-unfolding readNumber numberBytes
+unfolding readNumber
 read-form s at {n} bytes e =
-    let r = groups-readGroups 3 s at at 1 0 n bytes (le-refl at) e in
-    let value : n .value ≡ r .number = r .value-is ∙ (rw (one-mul, zero-add)) in
+    let r = grouped-readGroups 4 s at at 1 0 n bytes e in
     let place = read-next s at e in
-    (place .1, place .2, (omega (arith, r .fits), rw value (r .groups-are)))
+    let taken = slice-length s at (n .next) (place .2) in
+    let form : Form (n .value) (slice at (n .next) s) = record {
+      grouped = r .grouped;
+      most-four = omega arith;
+      counts = sym (r .value-is ∙ (rw (one-mul, zero-add)));
+    } in
+    (place .1, place .2, form)
+
+-- A reading gives a number and the next place exactly where the bytes between are a form of it.
+pub read-iff-form : (s : List ℕ) (at : ℕ) (n : Reading) → Bytes s
+    → (readNumber s at ≡ accepted n) ↔ ((n .next ≤ length s) × Form (n .value) (slice at (n .next) s))
+read-iff-form s at n bytes = (λ e. let f = read-form s at bytes e in (f .1, f .2), from)
+  where
+    from : (n .next ≤ length s) × Form (n .value) (slice at (n .next) s) → readNumber s at ≡ accepted n
+    from (inside, form) =
+        let some = grouped-length-pos (slice at (n .next) s) (form .grouped) in
+        let taken = slice-length s at (n .next) inside in
+        let before = length-take-le (n .next) s inside in
+        let stands : drop at s ≡ slice at (n .next) s ++ drop (n .next) s =
+        ap (drop at) (sym (take-append-drop (n .next) s))
+        ∙ drop-append-le at (take (n .next) s) (drop (n .next) s) (omega arith) in
+        let next : at + length (slice at (n .next) s) ≡ n .next = omega arith in
+        rw next at (form-read-at s (drop (n .next) s) at form stands)
 
 -- Reading looks at four bytes at most.
 pub read-local : (m : ℕ) (s : List ℕ) (at : ℕ) → at + 4 ≤ m → m ≤ length s → readNumber (take m s) at ≡ readNumber s at
 unfolding readNumber
 read-local m s at h le = readGroups-take 4 m s at at 1 0 h le
 
--- "the one shortest form"
-pub form-unique : {v : ℕ} {f g : List ℕ} → Form v f → Form v g → f ≡ g
-form-unique p q = p .1 ∙ sym (q .1)
-
 -- a form is of one number
 pub form-value-unique : {v w : ℕ} {f : List ℕ} → Form v f → Form w f → v ≡ w
-form-value-unique {v} {w} {f} p q =
-    ap (λ (r : Reading). r .value) (accepted-injective (sym (form-read [] [] p) ∙ form-read [] [] q))
+form-value-unique p q = sym (p .counts) ∙ q .counts
 
 -- "It has one to four groups."
 pub form-length : {v : ℕ} {f : List ℕ} → Form v f → (1 ≤ length f) × (length f ≤ 4)
-unfolding numberBytes
-form-length {v} p =
-    rw
-    (p .1)
-    (groups-length-pos 3 v, groups-length-le 3 3 v (fits-four v (p .0)) (le-refl 3))
+form-length {f = f} p = (grouped-length-pos f (p .grouped), p .most-four)
 
 pub form-bytes : {v : ℕ} {f : List ℕ} → Form v f → Bytes f
-unfolding numberBytes
-form-bytes {v} p = rw (p .1) (groups-bytes 3 v (fits-four v (p .0)))
+form-bytes {f = f} p = grouped-bytes f (p .grouped)
+
+-- "The largest is 268,435,455."
+pub form-most : {v : ℕ} {f : List ℕ} → Form v f → v ≤ largestNumber
+form-most {f = f} p = let less = countUp-lt f 4 (p .most-four) in omega (arith, p .counts)
 
 -- the shortest form is a form
 pub form-numberBytes : (v : ℕ) → v ≤ largestNumber → Form v (numberBytes v)
-form-numberBytes v h = (h, refl)
+unfolding numberBytes
+form-numberBytes v h =
+    let fits = fits-four v h in
+    record { grouped = groups-grouped 3 v fits; most-four = groups-length-le-more 3 v; counts = groups-countUp 3 v fits }
+
+-- and no form is shorter
+pub form-shortest : {v : ℕ} {f : List ℕ} → Form v f → length (numberBytes v) ≤ length f
+unfolding numberBytes
+form-shortest {v} {f} p =
+    let (some, few) = form-length p in
+    let less : v < capacity (suc (length f - 1)) = rw (← p .counts) (countUp-lt f (suc (length f - 1)) (omega arith)) in
+    let short = groups-length-le (length f - 1) 3 v less (omega arith) in
+    omega arith
 
 pub numberBytes-length-one : (v : ℕ) → v < 128 → length (numberBytes v) ≡ 1
 unfolding numberBytes

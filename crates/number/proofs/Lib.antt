@@ -6,3 +6,4 @@ pub mod Within
 pub mod Worked
 pub mod Forms
 pub mod Meaning
+pub mod Alike

@@ -15,7 +15,7 @@ use Rattle.refusal.specs.Checked.{Checked, accepted, refused, _>>=_, require}
 use Rattle.number.specs.Numbers.{readGroups, readNumber, readWithin}
 use Rattle.number.specs.declared.Reading.{Reading}
 use Rattle.number.specs.Meaning.{Follows, NumberRefused, WithinRefused}
-use Rattle.number.proofs.ReadGroups.{readGroups-ends, readGroups-follows, readGroups-zero-last, readGroups-elim}
+use Rattle.number.proofs.ReadGroups.{readGroups-ends, readGroups-follows, readGroups-elim}
 use Rattle.number.proofs.Within.{readWithin-refused, readWithin-below, readWithin-above}
 
 refused-injective : {a b : Refusal} → _≡_ {A = Checked Reading} (refused a) (refused b) → a ≡ b
@@ -38,7 +38,7 @@ refused-after : (left done : ℕ) (s : List ℕ) (start weight sum : ℕ) → do
 unfolding readGroups
 refused-after zero done s start weight sum four f e p =
     let all : done ≡ 4 = omega arith in
-    subst (NumberRefused s start) (refused-injective p) (inl (subst (Follows s start) all f), refl)
+    subst (NumberRefused s start) (refused-injective p) (subst (Follows s start) all f, refl)
 refused-after (suc left) done s start weight sum four f e p₀ =
     readGroups-elim (λ m. m ≡ refused e → NumberRefused s start e) left s start (start + done) weight sum
     (λ ends p. subst (NumberRefused s start) (refused-injective p) ((done, omega arith, f, ends), refl))
@@ -46,9 +46,7 @@ refused-after (suc left) done s start weight sum four f e p₀ =
     refused-after left (suc done) s start (weight * 128) (sum + weight * (getD s (start + done) 0 - 128)) (omega arith)
     (follows-suc s start done f inside top) e
     (rw (add-suc start done) p))
-    (λ inside z after p.
-    subst (NumberRefused s start) (refused-injective p) (inr (done, omega arith, omega arith, f, inside, z), refl))
-    (λ inside last pos p. absurd (let z : _≡_ {A = ℕ} 0 1 = cc in omega arith))
+    (λ inside last p. absurd (let z : _≡_ {A = ℕ} 0 1 = cc in omega arith))
     p₀
 
 -- after groups with the top bit set the rest is read
@@ -81,12 +79,9 @@ number-refused-iff s at e = (λ p. refused-after 4 0 s at 1 0 refl (λ i lt. abs
     from (Ended p) ((g, few, f, ends), is) =
         let (w, t, r) = rest g few f in
         r ∙ readGroups-ends (3 - g) s at (at + g) w t ends ∙ ap (λ p. refused (Ended p)) (sym is)
-    from (Malformed p) (inl f, is) =
+    from (Malformed p) (f, is) =
         let (w, t, r) = after-follows 4 0 s at at 1 0 f in
         r ∙ none-left (at + 4) w t ∙ ap (λ p. refused (Malformed p)) (sym is)
-    from (Malformed p) (inr (g, pos, few, f, inside, z), is) =
-        let (w, t, r) = rest g few f in
-        r ∙ readGroups-zero-last (3 - g) s at (at + g) w t inside z (omega arith) ∙ ap (λ p. refused (Malformed p)) (sym is)
     from WrongKind h = absurd h
     from (OutsideLimits p) h = absurd h
     from (Trailing p) h = absurd h

@@ -18,10 +18,8 @@ Follows s at g = (i : ℕ) → i < g → (at + i < length s) × (128 ≤ getD s 
 abbrev pub NumberRefused : List ℕ → (at : ℕ) → Refusal → Type 0
 -- "the input ends inside a number": "input length"
 NumberRefused s at (Ended p) = ((g : ℕ) × (g < 4) × Follows s at g × (length s ≤ at + g)) × (p ≡ length s)
--- "four groups all with the top bit set, or a zero last group after another": "the number's start"
-NumberRefused s at (Malformed p) =
-    (Follows s at 4 ⊎ ((g : ℕ) × (0 < g) × (g < 4) × Follows s at g × (at + g < length s) × (getD s (at + g) 0 ≡ 0)))
-    × (p ≡ at)
+-- request (b): "four bytes that all have the top bit set"; its place is "the number's start"
+NumberRefused s at (Malformed p) = Follows s at 4 × (p ≡ at)
 NumberRefused s at WrongKind = ⊥
 NumberRefused s at (OutsideLimits p) = ⊥
 NumberRefused s at (Trailing p) = ⊥

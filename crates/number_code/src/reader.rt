@@ -6,7 +6,7 @@ ghost use mathlib.Core.Path.{_≡_};
 ghost use Rattle.number.specs.Numbers.{readNumber};
 ghost use Rattle.number.specs.Answers.{numberRead};
 
-// The number that starts at `at` with the place after it, or refusal 1 or 2.
+// The number that starts at `at`, in any form of it, with the place after it; or refusal 1 or 2.
 pub fn read_number(bytes: &[u8], at: usize) -> NumberRead
     ensures { λ r. ⌜ r ≡ numberRead (readNumber (now (bytes .entry)) at) ⌝ }
 {
@@ -20,9 +20,6 @@ pub fn read_number(bytes: &[u8], at: usize) -> NumberRead
         }
         let byte = bytes[place] as usize;
         if byte < 128 {
-            if byte == 0 && at < place {
-                return NumberRead::Refused(Refusal::Malformed(at));
-            }
             return NumberRead::Value(Reading {
                 value: sum + weight * byte,
                 next: place + 1,

@@ -2,3 +2,4 @@ pub mod Accepted
 pub mod Prefix
 pub mod Worked
 pub mod Meaning
+pub mod Padding

@@ -11,7 +11,8 @@ use Rattle.layers.proofs.Heads.{reads-of-readBase}
 use Rattle.layers.proofs.Prefix.{readBase-next, readBase-take, readLayers-take, layers-take}
 use Rattle.pack.specs.Pack.{packLayerLimits, readPack, checkPack}
 
--- 3 numbers and 2 for each of 5 layers, of 4 bytes each, and 4,096 rows of 5 bytes
+-- 3 numbers and 2 for each of 5 layers, of 4 bytes each, and 4,096 rows of 5 bytes. Four is the most that any form
+-- of a number has, so numbers that are padded (request (b)) are within it too.
 within-reach : (m : ℕ) (s : List ℕ) → 20_532 < m → m ≤ length s → readPack (take m s) ≡ readPack s
 unfolding readPack
 within-reach m s h long =
@@ -30,6 +31,6 @@ pub checkPack-take : (m : ℕ) (s : List ℕ) → 20_532 < m → checkPack (take
 unfolding checkPack
 checkPack-take m s h = ap (mapAccepted (λ file. file .content)) (readPack-take m s h)
 
--- A program reads 32,768 bytes: the rest of its input changes nothing.
+-- A program reads 32,768 bytes: the rest of its input changes nothing, also where every number of the head is padded.
 pub checkPack-buffer : (s : List ℕ) → checkPack (take 32_768 s) ≡ checkPack s
 checkPack-buffer s = checkPack-take 32_768 s (omega arith)

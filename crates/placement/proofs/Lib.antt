@@ -7,3 +7,4 @@ pub mod Prefix
 pub mod Worked
 pub mod Answered
 pub mod Meaning
+pub mod Padding

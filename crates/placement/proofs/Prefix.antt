@@ -15,7 +15,8 @@ use Rattle.layers.proofs.Prefix.{readBase-next, readWithin-next, readBase-take,
 use Rattle.placement.specs.Placement.{placementLayerLimits, readTerms, readPlacement, checkPlacement}
 use Rattle.placement.proofs.Accepted.{termNumbers, reads-of-readTerms}
 
--- 7 numbers and 2 for each of 5 layers, of 4 bytes each, and 4,096 rows of 5 bytes
+-- 7 numbers and 2 for each of 5 layers, of 4 bytes each, and 4,096 rows of 5 bytes. Four is the most that any form
+-- of a number has, so numbers that are padded (request (b)) are within it too.
 reach : (at s b r : ℕ) → at ≤ 28 → s ≤ r → r ≤ 5 → b ≤ 4_096 → at + s * 8 + b * r ≤ 20_548
 reach at s b r h₁ h₂ h₃ h₄ = let rows = mul-le-mul h₄ h₃ in omega arith
 
@@ -60,6 +61,6 @@ pub checkPlacement-take : (m : ℕ) (bytes : List ℕ) → 20_548 < m → checkP
 unfolding checkPlacement
 checkPlacement-take m bytes h = ap (mapAccepted (λ file. file .content)) (readPlacement-take m bytes h)
 
--- A program reads 32,768 bytes: the rest of its input changes nothing.
+-- A program reads 32,768 bytes: the rest of its input changes nothing, also where every number of the head is padded.
 pub checkPlacement-buffer : (bytes : List ℕ) → checkPlacement (take 32_768 bytes) ≡ checkPlacement bytes
 checkPlacement-buffer bytes = checkPlacement-take 32_768 bytes (omega arith)

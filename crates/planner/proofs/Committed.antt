@@ -4,7 +4,7 @@ use Prim.Native.Nat.{ℕ, zero, suc, _+_, _*_, _-_, _≤_, _<_}
 use native.Mathlib.Omega.{arith}
 use native.Mathlib.Nat.{le-refl, le-trans, mul-le-mul-right}
 use mathlib.Core.Path.{_≡_, sym, _∙_, ap, subst}
-use mathlib.Core.List.{List, [], _∷_, _++_, map-map, flatten}
+use mathlib.Core.List.{List, _++_, map-map, flatten}
 use lib.ListN.{length, getD, take, drop, length-append, length-drop}
 use lib.Seq.{getD-take}
 use Rattle.lists.specs.Lists.{All, upTo, overStart}
@@ -12,7 +12,8 @@ use Rattle.lists.proofs.Alls.{all-map}
 use Rattle.lists.proofs.UpTo.{all-upTo, map-upTo-congr, getD-map-upTo}
 use Rattle.lists.proofs.Writing.{givenBack, take-drop-rest, write-part}
 use Rattle.refusal.specs.Checked.{accepted}
-use Rattle.number.specs.Numbers.{Forms, formsOf, largestNumber}
+use Rattle.number.specs.Numbers.{formsOf, largestNumber}
+use Rattle.number.proofs.Forms.{forms-most}
 use Rattle.packing.specs.Rows.{repeated}
 use Rattle.layers.specs.Layers.{Layer, allRows, headsOf, sizes}
 use Rattle.layers.specs.Answers.{noHead, fiveHeads}
@@ -33,11 +34,6 @@ use Rattle.planner.specs.declared.PlanAnswer.the-variants.{Planned}
 use Rattle.planner.specs.Writing.{heldLayers, heldPack, countsPlacement, writtenNumbers, rowsBelow, Writable, SharesFit, RowsFit}
 use Rattle.planner.proofs.Layering.{layerAt-held, length-rowsBelow}
 use Rattle.planner.proofs.Placed.{heads-placed, placed-good}
-
--- numbers that have forms are within limits
-forms-most : (numbers f : List ℕ) → Forms numbers f → All (λ v. v ≤ largestNumber) numbers
-forms-most [] f h = tt
-forms-most (v ∷ numbers) f (g, rest, e, form, h) = (form .0, forms-most numbers rest h)
 
 -- a layer that holds records has blocks
 held-some : (c d m : ℕ) → c ≤ d * m → 0 < c → 0 < m

@@ -5,3 +5,4 @@ pub mod Planned
 pub mod Layering
 pub mod Committed
 pub mod Worked
+pub mod Padding

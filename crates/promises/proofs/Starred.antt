@@ -30,12 +30,13 @@ pub starred :
     (choose 5 2 ≡ 10)
     × (choose 2 3 ≡ 0)
     × (choose 254 5 ≡ 8_468_125_050)
-    -- 0, 127, 128, 300 are bytes 0; 127; 128 1; 172 2. Bytes 128 0: refusal 2, place 0
+    -- 0, 127, 128, 300 are bytes 0; 127; 128 1; 172 2. By request (b) "the starred bytes 128 0 now read as 0, length 2": the
+    -- next place less 0
     × (numberBytes 0 ≡ 0 ∷ [])
     × (numberBytes 127 ≡ 127 ∷ [])
     × (numberBytes 128 ≡ 128 ∷ 1 ∷ [])
     × (numberBytes 300 ≡ 172 ∷ 2 ∷ [])
-    × (readOutcome (numberRead (readNumber (128 ∷ 0 ∷ []) 0)) ≡ refusal 2 0)
+    × (readOutcome (numberRead (readNumber (128 ∷ 0 ∷ []) 0)) ≡ result (0 ∷ 2 ∷ []))
     -- P's layer 1 with its last row 246: refusal 7, place 27
     × (packOutcome (packChecked (readPack (packBytes (2 ∷ 4 ∷ 6 ∷ [])))) ≡ refusal 7 27)
     -- with P, the length, F and the counts: s 2, k 2, b 7: F 6. s 2, k 3, b 7: F 4. s 2, k 3, b 9: F 5, counts 2 and 7.

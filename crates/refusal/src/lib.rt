@@ -3,7 +3,7 @@
 pub enum Refusal {
     // The input ends inside a number or before the last row's end: the input's length.
     Ended(usize),
-    // Four groups all with the top bit set, or a zero last group after another: the number's start.
+    // Four groups all with the top bit set: the number's start.
     Malformed(usize),
     // The first number is not the file's kind.
     WrongKind,

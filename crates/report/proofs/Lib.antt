@@ -5,3 +5,4 @@ pub mod Load
 pub mod Mean
 pub mod Replies
 pub mod Slices
+pub mod Padding

@@ -1,4 +1,5 @@
--- What the programs write is the same for the first 32,768 bytes of the input, which is what they read. Assumes nothing.
+-- What the programs write is the same for the first 32,768 bytes of the input, which is what they read. Each number is
+-- allowed four bytes, the most that any form of it has, so padding (request (b)) needs no more. Assumes nothing.
 use Prim.Native.Nat.{ℕ, _+_, _-_, _≤_, _<_}
 use native.Mathlib.Omega.{arith}
 use mathlib.Core.Path.{_≡_}

@@ -13,7 +13,6 @@ use planner::PlanAnswer;
 use planner::PlanResult;
 use refusal::Refusal;
 use report::Reply;
-ghost use mathlib.Core.Path.{_≡_};
 ghost use lib.ListN.{length};
 
 // What no call answers.

@@ -11,7 +11,7 @@ use Rattle.number.specs.Numbers.{readGroups, readNumber}
 use Rattle.number.specs.Answers.{numberRead}
 use Rattle.number.specs.declared.NumberRead.the-variants.{Value, Refused}
 use Rattle.number.proofs.Groups.{capacity, capacity-pos}
-use Rattle.number.proofs.ReadGroups.{readGroups-ends, readGroups-follows, readGroups-zero-last, readGroups-last}
+use Rattle.number.proofs.ReadGroups.{readGroups-ends, readGroups-follows, readGroups-last}
 
 -- Before each turn: what is left to read answers for the whole; the sum is below the weight; the groups that may come fit.
 pub record ReadTurn (s : List ℕ) (start left at weight sum : ℕ) : Type 0 where
@@ -48,14 +48,10 @@ module _ {s : List ℕ} {start left at weight sum : ℕ} (turn : ReadTurn s star
     pub read-ends : length s ≤ at → Refused (Ended (length s)) ≡ numberRead (readNumber s start)
     read-ends ends = sym (ap numberRead (same-more ∙ readGroups-ends (left - 1) s start at weight sum ends))
 
-    pub read-zero-last : at < length s → getD s at 0 ≡ 0 → start < at → Refused (Malformed start) ≡ numberRead (readNumber s start)
-    read-zero-last inside z after =
-        sym (ap numberRead (same-more ∙ readGroups-zero-last (left - 1) s start at weight sum inside z after))
-
-    pub read-last : at < length s → getD s at 0 < 128 → (start < at → 0 < getD s at 0)
+    pub read-last : at < length s → getD s at 0 < 128
         → Value (record { value = sum + weight * getD s at 0; next = at + 1 }) ≡ numberRead (readNumber s start)
-    read-last inside small pos =
-        rw add-one (sym (ap numberRead (same-more ∙ readGroups-last (left - 1) s start at weight sum inside small pos)))
+    read-last inside small =
+        rw add-one (sym (ap numberRead (same-more ∙ readGroups-last (left - 1) s start at weight sum inside small)))
 
     -- the weight is at most that of the fourth group
     weight-le : weight ≤ 2_097_152

@@ -1,11 +1,9 @@
 -- `number_code::reader::read_number` meets its contract. The loop's invariant: the groups that are left to read answer for the whole
 -- number, and what they add fits. The measure is how many groups may come. Assumes nothing.
 use native.Mathlib.Omega.{arith}
-use mathlib.Core.Logic.{⊎-elim}
 use lib.ListN.{getD}
 use borrow.Author.Needs.{needs}
-use borrow.Author.Tests.{ltb-true, ltb-false}
-use Rattle.number_code.proofs.reader.ReadLoop.{ReadTurn, ReadFits, read-holds, read-none, read-ends, read-zero-last, read-last, read-again, read-fits}
+use Rattle.number_code.proofs.reader.ReadLoop.{ReadTurn, ReadFits, read-holds, read-none, read-ends, read-last, read-again, read-fits}
 use Rattle.number_code.proofs.reader.read_number.Statement.{statement}
 use Rattle.number_code.proofs.reader.read_number.Tie as tie
 
@@ -15,13 +13,13 @@ Inv-loop bytes at left₀ place₀ weight₀ sum₀ left place weight sum = Read
 abbrev μ-loop : tie.MeasureT-loop
 μ-loop bytes at left₀ place₀ weight₀ sum₀ left place weight sum = left
 
-last-fits : (c : tie.Joined3 Inv-loop μ-loop)
-    → let l = c .before .before .before .before .before .loop in
-    ReadFits (l .weight) (getD (c .before .before .before .before .before .before .args .bytes .now) (l .place) 0)
+last-fits : (c : tie.Then2 Inv-loop μ-loop)
+    → let l = c .before .before .before .before .loop in
+    ReadFits (l .weight) (getD (c .before .before .before .before .before .args .bytes .now) (l .place) 0)
 last-fits c =
-    let l = c .before .before .before .before .before .loop in
+    let l = c .before .before .before .before .loop in
     read-fits (l .inv) (omega arith) _
-    (c .before .before .shared-slice-known .given (l .place) .fits)
+    (c .before .shared-slice-known .given (l .place) .fits)
 
 more-fits : (c : tie.Else2 Inv-loop μ-loop)
     → let l = c .before .before .before .before .loop in
@@ -43,26 +41,19 @@ shared-slice-read-byte c = search needs
 cast-byte : tie.Need-cast-byte Inv-loop μ-loop
 cast-byte c = omega (arith, c .shared-slice-known .given (c .before .before .before .loop .place))
 
+mul-t14 : tie.Need-mul-t14 Inv-loop μ-loop
+mul-t14 c = omega (arith, last-fits c)
+
+add-t15 : tie.Need-add-t15 Inv-loop μ-loop
+add-t15 c = omega (arith, last-fits c)
+
+add-t16 : tie.Need-add-t16 Inv-loop μ-loop
+add-t16 c = search needs
+
 returns-2 : tie.Need-returns-2 Inv-loop μ-loop
 returns-2 c =
-    let l = c .before .before .before .before .before .before .loop in
-    read-zero-last (l .inv) (omega arith) (omega arith) (omega arith)
-    (omega (arith, ltb-true))
-
-mul-t17 : tie.Need-mul-t17 Inv-loop μ-loop
-mul-t17 c = omega (arith, last-fits c)
-
-add-t18 : tie.Need-add-t18 Inv-loop μ-loop
-add-t18 c = omega (arith, last-fits c)
-
-add-t19 : tie.Need-add-t19 Inv-loop μ-loop
-add-t19 c = search needs
-
-returns-3 : tie.Need-returns-3 Inv-loop μ-loop
-returns-3 c =
-    let l = c .before .before .before .before .before .loop in
+    let l = c .before .before .before .before .loop in
     read-last (l .inv) (omega arith) (omega arith) (omega arith)
-    (⊎-elim (λ w. omega (arith, ltb-false)) (λ w. omega arith) (c .if3 .came))
 
 mul-sum : tie.Need-mul-sum Inv-loop μ-loop
 mul-sum c = omega (arith, more-fits c)
@@ -88,8 +79,8 @@ loop-again c =
     read-again (l .inv) (omega arith) (omega arith) (omega arith)
     (c .before .shared-slice-known .given (l .place) .fits)
 
-returns-4 : tie.Need-returns-4 Inv-loop μ-loop
-returns-4 c = read-none (c .before .loop .inv) (omega arith)
+returns-3 : tie.Need-returns-3 Inv-loop μ-loop
+returns-3 c = read-none (c .before .loop .inv) (omega arith)
 
 pub read-number-spec : {M : Type 1} → statement M
 read-number-spec =
@@ -101,11 +92,10 @@ read-number-spec =
     returns
     shared-slice-read-byte
     cast-byte
+    mul-t14
+    add-t15
+    add-t16
     returns-2
-    mul-t17
-    add-t18
-    add-t19
-    returns-3
     mul-sum
     add-sum
     mul-weight
@@ -113,4 +103,4 @@ read-number-spec =
     sub-left
     loop-less
     loop-again
-    returns-4)
+    returns-3)

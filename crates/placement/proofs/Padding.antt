@@ -1,0 +1,118 @@
+-- Request (b): placements that differ only in the padding of their first numbers are both accepted or both refused. Assumes
+-- nothing.
+use Prim.Native.Nat.{ℕ, _+_, _*_, _-_, _≤_, _<_}
+use native.Mathlib.Omega.{arith}
+use mathlib.Core.Path.{_≡_, refl}
+use mathlib.Core.Bool.{Bool, true, false}
+use mathlib.Core.List.{List, [], _∷_}
+use lib.ListN.{length, getD, drop, length-drop}
+use lib.Dec.{eqb}
+use Rattle.refusal.specs.declared.Refusal.the-variants.{WrongFigure}
+use Rattle.refusal.specs.Checked.{require}
+use Rattle.refusal.specs.Agree.{Agree, both-accepted, both-refused}
+use Rattle.refusal.proofs.Agree.{agree-bind}
+use Rattle.layers.specs.Layers.{Layer, headsOf, readLayers}
+use Rattle.layers.specs.declared.Base.{Base}
+use Rattle.layers.specs.declared.LayerHead.{LayerHead}
+use Rattle.layers.proofs.Padding.{Padded, HeadsPadded, readWithin-padded, readBase-padded, readLayers-padded, checkRows-padded}
+use Rattle.placement.specs.Figure.{figureOf}
+use Rattle.placement.specs.declared.Terms.{Terms}
+use Rattle.placement.specs.Placement.{TermsReading, placementLayerLimits, placementOf, readTerms, checkFigure, readPlacement}
+
+-- the same s, k, b and F; only F's place may differ
+record SameTerms (t t′ : Terms) : Type 0 where
+  s-same : t .s ≡ t′ .s
+  k-same : t .k ≡ t′ .k
+  b-same : t .b ≡ t′ .b
+  figure-same : t .figure ≡ t′ .figure
+
+-- What two readings of them give.
+record TermsPadded (vs s s′ : List ℕ) (t t′ : TermsReading) : Type 0 where
+  same : SameTerms (t .terms) (t′ .terms)
+  first : 0 < length vs → t .terms .s ≡ getD vs 0 0
+  after : Padded (drop 4 vs) s s′ (t .next) (t′ .next)
+
+after-fourth : (vs : List ℕ) → drop 1 (drop 1 (drop 1 (drop 1 vs))) ≡ drop 4 vs
+after-fourth [] = refl
+after-fourth (a ∷ []) = refl
+after-fourth (a ∷ b ∷ []) = refl
+after-fourth (a ∷ b ∷ c ∷ []) = refl
+after-fourth (a ∷ b ∷ c ∷ d ∷ vs) = refl
+
+readTerms-padded : (base : Base) (vs bytes bytes′ : List ℕ) (at at′ : ℕ) → Padded vs bytes bytes′ at at′
+    → Agree (TermsPadded vs bytes bytes′) (readTerms base bytes at) (readTerms base bytes′ at′)
+unfolding readTerms
+readTerms-padded base vs bytes bytes′ at at′ p =
+    agree-bind _ _ (readWithin-padded bytes bytes′ 1 (base .r) vs at at′ p) λ s s′ r₁.
+    rw
+    (r₁ .value)
+    (agree-bind _ _
+    (readWithin-padded bytes bytes′ (s′ .value) (base .n - 1) (drop 1 vs) (s .next) (s′ .next) (r₁ .after)) λ k k′ r₂.
+    agree-bind _ _ (readWithin-padded bytes bytes′ 1 4_096 (drop 1 (drop 1 vs)) (k .next) (k′ .next) (r₂ .after)) λ b b′ r₃.
+    rw
+    (r₃ .value)
+    (agree-bind _ _
+    (readWithin-padded bytes bytes′ 0 (b′ .value) (drop 1 (drop 1 (drop 1 vs))) (b .next) (b′ .next) (r₃ .after))
+    λ figure figure′ r₄.
+    both-accepted
+    (record {
+      same = record { s-same = refl; k-same = r₂ .value; b-same = refl; figure-same = r₄ .value };
+      first = rw (r₁ .value) at (r₁ .first);
+      after = rw (← after-fourth vs) (r₄ .after);
+    })))
+
+-- after seven numbers at most two for each of s layers are left
+layers-left : (vs : List ℕ) (s : ℕ) → length vs ≤ 7 + 2 * getD vs 3 0 → (0 < length (drop 3 vs) → s ≡ getD (drop 3 vs) 0 0)
+    → length (drop 4 (drop 3 vs)) ≤ s * 2
+layers-left [] s most is = omega arith
+layers-left (a ∷ []) s most is = omega arith
+layers-left (a ∷ b ∷ []) s most is = omega arith
+layers-left (a ∷ b ∷ c ∷ []) s most is = omega arith
+layers-left (a ∷ b ∷ c ∷ d ∷ vs) s most is =
+    let same = is (omega arith) in
+    rw (length-drop 3 vs) (omega arith)
+
+module _ {terms terms′ : Terms} (same : SameTerms terms terms′) where
+  -- the figure by the same numbers
+  figure-agree : (heads : List LayerHead) → Agree (λ u u′. Unit) (checkFigure terms heads) (checkFigure terms′ heads)
+  unfolding checkFigure
+  figure-agree heads =
+      rw
+      (same .s-same, same .k-same, same .b-same, same .figure-same)
+      (go (eqb (terms′ .figure) (figureOf (terms′ .s) (terms′ .k) (terms′ .b) heads)))
+    where
+      go : (t : Bool)
+          → Agree (λ u u′. Unit) (require t (WrongFigure (terms .place))) (require t (WrongFigure (terms′ .place)))
+      go true = both-accepted tt
+      go false = both-refused refl
+
+  same-placement : (base : Base) (layers : List Layer) → placementOf base terms layers ≡ placementOf base terms′ layers
+  same-placement base layers = rw (same .s-same, same .k-same, same .b-same, same .figure-same)
+
+-- The head has 7 + 2s numbers: where the first of them are the same, and the same bytes follow them, so is the answer.
+pub readPlacement-padded : (vs bytes bytes′ : List ℕ) → length vs ≤ 7 + 2 * getD vs 3 0 → Padded vs bytes bytes′ 0 0
+    → Agree (λ file file′. file .content ≡ file′ .content) (readPlacement bytes) (readPlacement bytes′)
+unfolding readPlacement
+readPlacement-padded vs bytes bytes′ most p =
+    agree-bind _ _ (readBase-padded bytes bytes′ 2 vs p) λ head head′ r₁.
+    rw
+    (r₁ .base)
+    (agree-bind _ _ (readTerms-padded (head′ .base) (drop 3 vs) bytes bytes′ (head .next) (head′ .next) (r₁ .after))
+    λ order order′ r₂.
+    let left = layers-left vs (order .terms .s) most (r₂ .first) in
+    let layers-agree : Agree (HeadsPadded bytes bytes′)
+    (readLayers placementLayerLimits (order .terms .s) (order .terms .b) bytes (order .next))
+    (readLayers placementLayerLimits (order′ .terms .s) (order′ .terms .b) bytes′ (order′ .next)) =
+    rw
+    (← r₂ .same .s-same, ← r₂ .same .b-same)
+    (readLayers-padded bytes bytes′ placementLayerLimits (order .terms .s) (order .terms .b) (drop 4 (drop 3 vs))
+    (order .next) (order′ .next) left (r₂ .after)) in
+    agree-bind _ _ layers-agree λ numbers numbers′ r₃.
+    rw
+    (r₃ .heads)
+    (agree-bind _ _ (checkRows-padded bytes bytes′ (head′ .base) (numbers′ .heads) (numbers .next) (numbers′ .next) (r₃ .after))
+    λ layers layers′ same.
+    rw
+    same
+    (agree-bind _ _ (figure-agree (r₂ .same) (headsOf layers′)) λ u u′ t.
+    both-accepted (same-placement (r₂ .same) (head′ .base) layers′))))
