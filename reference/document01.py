@@ -173,6 +173,16 @@ def worst_case(placement):
                for failed in combinations(range(placement["n"]), placement["k"]))
 
 
+def curve(data, output=None):
+    """Document 02 (c): the figure for each number of failures from s to n-1. output: the entries lent, None for enough."""
+    p = check_placement(data)
+    n, s, b = p["n"], p["s"], p["b"]
+    if output is not None and output < n - s:
+        raise Refused(11, n - s)
+    heads = [(bound, len(rows)) for bound, rows in p["layers"]]
+    return [figure(s, k, b, heads) for k in range(s, n)]
+
+
 # --- planning
 
 def least_copies(c, m):

@@ -4,7 +4,8 @@ from collections import Counter
 from document01 import Refused
 
 CALLS = {"read_number": 4, "read_within": 5, "check_pack": 6, "check_placement": 7, "first_crowded": 8, "write_number": 9,
-         "plan": 10, "row_walk": 11, "check_reply": 12, "plan_reply": 13}
+         "plan": 10, "row_walk": 11, "check_reply": 12, "plan_reply": 13, "curve": 14}
+WRONG = 13  # one more than the highest refusal's number
 LARGEST_64 = 2 ** 64 - 1
 FILLS = (170, 85)
 
@@ -75,9 +76,9 @@ class Script:
         self.calls.append((name, own, self.input, answer))
 
     def lines(self):
-        """What vectors_test is to print: for each kind, a result or a refusal's number, each call's vectors; 13 are wrong ones."""
+        """What vectors_test is to print: for each kind, a result or a refusal's number, each call's vectors; the last are wrong ones."""
         yield " ".join(["\nkind", *CALLS])
-        for kind in range(14):
+        for kind in range(WRONG + 1):
             yield " ".join([f"\n{kind}", *(str(self.seen[name, kind]) for name in CALLS)])
         yield "\n"
 

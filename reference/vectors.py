@@ -88,6 +88,17 @@ def call_walk(script, more=0):
     script.call("row_walk", [], [0, at, r, b, b, b * r, end, 0, 0, 0, end, 0, at, b], room=b * r + more, written=b"".join(rows))
 
 
+def call_curve(script, entries):
+    """The entries are compared as two bytes each, lowest first."""
+    try:
+        figures = reference.curve(script.input, entries)
+    except Refused as e:
+        script.call("curve", [], [e.number, e.place], room=2 * entries, work=entries)
+        return
+    written = b"".join(f.to_bytes(2, "little") for f in figures)
+    script.call("curve", [], [0, len(figures)], room=2 * entries, written=written, work=entries, free=len(figures))
+
+
 def reply_kind(reply):
     """The number in the line of a refusal, 0 for any other reply."""
     return int(reply.split()[1]) if reply.startswith(b"refused ") else 0
@@ -173,6 +184,30 @@ def placement_vectors(script):
             call_walk(script, i % 3)
     for room in (0, 1, LINE_ROOM - 1):
         call_check_reply(script, room)
+
+
+def curve_vectors(script):
+    """Every input of the checker, with enough entries; and outputs that are one short, just long enough and longer, none too."""
+    for i, data in enumerate(check_inputs()):
+        script.read(data)
+        call_curve(script, 255 + i % 3)
+        if i % 7:
+            continue
+        try:
+            entries = len(reference.curve(data))
+        except Refused:
+            call_curve(script, 0)
+            continue
+        for lent in (entries - 1, entries, entries + 1, 0):
+            call_curve(script, lent)
+    for n, r, s, k in ((255, 5, 5, 5), (255, 5, 5, 254), (255, 5, 1, 254), (255, 2, 2, 128), (6, 5, 5, 5), (3, 2, 1, 2), (2, 2, 1, 1)):
+        rows = [tuple(range(r)), tuple(range(n - r, n))]
+        heads = [(2, 0)] * (s - 1) + [(2, 2)]
+        f = reference.figure(s, k, 2, heads)
+        data = numbers(2, n, r, s, k, 2, f, *(v for head in heads for v in head)) + bytes(v for row in rows for v in row)
+        script.read(data)
+        for lent in (n - s - 1, n - s, n - s + 2):
+            call_curve(script, lent)
 
 
 def plan_edges(script, s, k, b, r):
@@ -284,8 +319,8 @@ def padded_vectors(script):
 
 def script_of_all():
     script = Script()
-    for vectors in (number_vectors, small_files, placement_vectors, plan_vectors, padded_vectors, crowding_vectors,
-                    published_vectors):
+    for vectors in (number_vectors, small_files, placement_vectors, curve_vectors, plan_vectors, padded_vectors,
+                    crowding_vectors, published_vectors):
         vectors(script)
     return script
 

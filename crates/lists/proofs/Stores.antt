@@ -3,9 +3,12 @@ use Prim.Native.Nat.{ℕ, suc, _+_, _≤_, _<_}
 use native.Mathlib.Omega.{arith}
 use native.Mathlib.Nat.{add-zero, zero-add, le-of-lt}
 use mathlib.Core.Path.{_≡_, refl, _∙_}
-use mathlib.Core.List.{List, [], _∷_, _++_}
+use mathlib.Core.List.{List, [], _∷_, _++_, map}
 use lib.ListN.{length, take, drop, set, length-append}
-use lib.Seq.{sets, sets-eq, set-split, take-at, drop-at, take-set-le, drop-set-lt, drop-append-le, length-take-le}
+use native.Mathlib.Numerals.{add-one}
+use Rattle.lists.specs.Lists.{upTo}
+use Rattle.lists.proofs.UpTo.{map-upTo-suc, length-map-upTo}
+use lib.Seq.{sets, length-sets, sets-eq, set-split, take-at, drop-at, take-set-le, drop-set-lt, drop-append-le, length-take-le}
 
 module _ {A : Type 0} where
   -- a list from a place on where an element was stored
@@ -43,3 +46,19 @@ module _ {A : Type 0} where
         drop-at (take i l) vs i e,
       )
       (take-at vs (drop (i + length vs) l) (length vs) refl)
+
+  -- the elements f 0, f 1, .. stored from place `at` on
+  module _ (at : ℕ) (l : List A) (f : ℕ → A) where
+    abbrev pub storedTo : (i : ℕ) → List A
+    storedTo i = sets l at (map f (upTo i))
+
+    pub stored-none : l ≡ storedTo 0
+    unfolding upTo
+    stored-none = refl
+
+    pub length-stored : (i : ℕ) {work : List A} → work ≡ storedTo i → length work ≡ length l
+    length-stored i e = rw e (length-sets l at (map f (upTo i)))
+
+    pub stored-next : (i : ℕ) (v : A) {work : List A} → work ≡ storedTo i → v ≡ f i → set work (at + i) v ≡ storedTo (i + 1)
+    stored-next i v e q =
+        rw (e, q, add-one i, map-upTo-suc f i, sets-append l at (map f (upTo i)) (f i ∷ []), length-map-upTo f i) refl

@@ -1,6 +1,7 @@
 pub mod Written
 pub mod Losses
 pub mod Survivors
+pub mod Units
 pub mod Accepted
 pub mod Rows
 pub mod Prefix

@@ -21,7 +21,7 @@ unfolding usable
 usable-append s rows more failed = count-append (λ row. ltb (hits failed row) s) rows more
 
 -- the records of the layers from x on are usable, or counted in the layers' losses
-sizes-le-losses : (n r s k x : ℕ) (layers : List Layer) (failed : ℕ → Bool) → x + length layers ≤ s → All (Row n r) (allRows layers)
+pub sizes-le-losses : (n r s k x : ℕ) (layers : List Layer) (failed : ℕ → Bool) → x + length layers ≤ s → All (Row n r) (allRows layers)
     → Packings x layers → Failure n k failed
     → sizes (headsOf layers) ≤ usable s (allRows layers) failed + losses s k x (headsOf layers)
 unfolding total flatten loss losses

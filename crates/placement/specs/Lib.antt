@@ -1,5 +1,6 @@
 pub mod Figure
 pub mod Placement
+pub mod Units
 pub mod Answers
 pub mod SevenCabinets
 pub mod Meaning

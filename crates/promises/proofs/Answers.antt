@@ -10,7 +10,7 @@ use lib.Dec.{lit≤}
 use Rattle.refusal.specs.declared.Refusal.{Refusal}
 use Rattle.refusal.specs.declared.Refusal.the-variants.{Ended, Malformed, WrongKind, OutsideLimits, Trailing, BadRow, Crowded, WrongFigure, NoBlock, ShortWork, ShortOutput, BadOrder}
 use Rattle.refusal.specs.Refusals.{result, numberOf}
-use Rattle.refusal.specs.Checked.{Checked, accepted, refused, _>>=_, outcome, written, verdict, verdictOutcome}
+use Rattle.refusal.specs.Checked.{Checked, accepted, refused, _>>=_, outcome, written, verdict, verdictOutcome, writing, writingOutcome}
 use Rattle.number.specs.declared.Reading.{Reading}
 use Rattle.number.specs.Answers.{numberRead, readOutcome, numberWritten, writtenOutcome}
 use Rattle.packing.specs.Answers.{rowFound, rowOutcome}
@@ -107,6 +107,11 @@ pub demand-1-numbers : (c : Checked OrderReading)
     → orderOutcome (orderRead c) ≡ outcome (λ read. read .order .s ∷ read .order .k ∷ read .order .b ∷ read .at ∷ []) c
 demand-1-numbers (accepted read) = refl
 demand-1-numbers (refused e) = refl
+
+-- a call that only writes
+pub demand-1-writing : (c : Checked (List ℕ)) → writingOutcome (writing c) ≡ outcome (λ elements. length elements ∷ []) c
+demand-1-writing (accepted elements) = refl
+demand-1-writing (refused e) = refl
 
 -- the row tests refuse nothing themselves: they name a row, or none
 abbrev rowValues : Option ℕ → List ℕ

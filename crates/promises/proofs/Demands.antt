@@ -7,12 +7,12 @@ use mathlib.Core.Logic.{_↔_}
 use mathlib.Core.Bool.{Bool}
 use mathlib.Core.List.{List, _∷_}
 use lib.ListN.{length, length-drop}
-use Rattle.refusal.specs.Refusals.{result, refusal}
+use Rattle.refusal.specs.Refusals.{result}
 use Rattle.refusal.specs.Checked.{Checked, accepted, refused}
 use Rattle.number.specs.Numbers.{Bytes}
 use Rattle.packing.specs.Rows.{member, recordsIn}
 use Rattle.packing.specs.Failures.{Failure, FailedNodes, usable}
-use Rattle.packing.proofs.Failed.{failure-of-nodes, rowsAt-records}
+use Rattle.packing.proofs.Failed.{failure-of-nodes}
 use Rattle.layers.specs.Layers.{Layer, Located, Stands, headsOf}
 use Rattle.layers.proofs.Files.{file-read, read-file}
 use Rattle.pack.specs.Pack.{Pack, PackFile, GoodPack, packNumbers, readPack}
@@ -21,16 +21,12 @@ use Rattle.pack.proofs.Accepted.{read-of-pack, pack-accepted}
 use Rattle.placement.specs.Placement.{Placement, PlacementFile, GoodPlacement, placementNumbers, placementBytes, readPlacement}
 use Rattle.placement.specs.Answers.{placementChecked, placementOutcome, placementValues}
 use Rattle.placement.proofs.Accepted.{read-of-placement, placement-accepted}
-use Rattle.placement.proofs.Rows.{rows-in}
 use Rattle.placement.proofs.Survivors.{survivors}
 use Rattle.split.specs.Splits.{Share, Named}
 use Rattle.split.proofs.Named.{named-unique}
 use Rattle.planner.specs.Planning.{splitPlacement}
 use Rattle.planner.proofs.Placed.{splitPlacement-congr}
-
--- a result is no refusal
-not-both : {values : List ℕ} {number place : ℕ} → refusal number place ≡ result values → ⊥
-not-both e = let z : _≡_ {A = ℕ} 0 1 = cc in omega arith
+use Rattle.promises.proofs.Says.{not-both, says}
 
 -- rows stand from one place to the end
 one-place : (s : List ℕ) (a b : ℕ) (layers : List Layer) → Stands s a layers → Stands s b layers → a ≡ b
@@ -118,25 +114,10 @@ pub demand-3-survivors : (bytes : List ℕ) {n r s k b figure first : ℕ} {laye
     → placementOutcome (placementChecked (readPlacement bytes)) ≡ result (n ∷ r ∷ s ∷ k ∷ b ∷ figure ∷ first ∷ layers)
     → (failed : ℕ → Bool) → Failure n k failed
     → figure ≤ usable s (recordsIn bytes first r b) failed
-demand-3-survivors bytes {n} {r} {s} {k} {b} {figure} {first} {layers} e failed f = go (readPlacement bytes) refl e
-  where
-    go : (c : Checked (Located Placement)) → readPlacement bytes ≡ c
-        → placementOutcome (placementChecked c) ≡ result (n ∷ r ∷ s ∷ k ∷ b ∷ figure ∷ first ∷ layers)
-        → figure ≤ usable s (recordsIn bytes first r b) failed
-    go (accepted file) q p =
-        let place = file .content in
-        let rows = rows-in bytes file q in
-        let n-is : place .n ≡ n = cc in
-        let r-is : place .r ≡ r = cc in
-        let s-is : place .s ≡ s = cc in
-        let k-is : place .k ≡ k = cc in
-        let b-is : place .b ≡ b = cc in
-        let figure-is : place .figure ≡ figure = cc in
-        let first-is : file .first ≡ first = cc in
-        let holds = survivors place (rows .good) failed (rw (n-is, k-is) f) in
-        let records = sym (rowsAt-records bytes (file .first) (place .r) (place .b)) ∙ rows .rows in
-        rw (figure-is, s-is, ← records, first-is, r-is, b-is) at holds
-    go (refused why) q p = absurd (not-both p)
+demand-3-survivors bytes e failed f =
+    let y = says bytes e in
+    let holds = survivors (y .file .content) (y .good) failed (rw (y .n-is, y .k-is) f) in
+    rw (y .figure-is, y .s-is, y .records) at holds
 
 -- The same for failed nodes as a list: k different nodes below n.
 pub demand-3-whichever : (bytes : List ℕ) {n r s k b figure first : ℕ} {layers : List ℕ}

@@ -1,7 +1,9 @@
+pub mod Says
 pub mod Demands
 pub mod Planned
 pub mod Programs
 pub mod Answers
 pub mod Refusals
 pub mod Requests
+pub mod RequestC
 pub mod Starred

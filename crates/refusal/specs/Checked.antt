@@ -1,11 +1,15 @@
 -- A result or a refusal, and the order of checks: the first refusal met is the answer. Assumes nothing.
 use Prim.Native.Nat.{ℕ}
+use mathlib.Core.Path.{_≡_}
 use mathlib.Core.Bool.{Bool, true, false}
-use mathlib.Core.List.{List, []}
+use mathlib.Core.List.{List, [], _∷_}
+use lib.ListN.{length}
 use Rattle.lists.specs.Lists.{overStart}
 use Rattle.refusal.specs.declared.Refusal.{Refusal}
 use Rattle.refusal.specs.declared.Verdict.{Verdict}
 use Rattle.refusal.specs.declared.Verdict.the-variants.{Good, Refused}
+use Rattle.refusal.specs.declared.Writing.{Writing}
+use Rattle.refusal.specs.declared.Writing.the-variants.{Written, Refused as NotWritten}
 use Rattle.refusal.specs.Refusals.{Outcome, result, refusalOutcome}
 
 -- Demand 1: "finishes with a result or a numbered refusal and its place".
@@ -49,3 +53,18 @@ verdict (refused e) = Refused e
 abbrev pub verdictOutcome : Verdict → Outcome
 verdictOutcome Good = result []
 verdictOutcome (Refused e) = refusalOutcome e
+
+-- Document 02, (c): "A call that only writes answers the bytes or entries written", as a value of the code's enum
+abbrev pub writing : Checked (List ℕ) → Writing
+writing (accepted elements) = Written (length elements)
+writing (refused e) = NotWritten e
+
+-- its value is the number of bytes or entries
+abbrev pub writingOutcome : Writing → Outcome
+writingOutcome (Written n) = result (n ∷ [])
+writingOutcome (NotWritten e) = refusalOutcome e
+
+-- what a call that only writes gives, and leaves in the slice that it was lent
+pub record WritingDone (wrote : Checked (List ℕ)) (out out-left : List ℕ) (given : Writing) : Type 0 where
+  pub answer : given ≡ writing wrote
+  pub output-after : out-left ≡ written wrote out

@@ -32,3 +32,9 @@ pub enum Verdict {
     Good,
     Refused(Refusal),
 }
+
+// What a call that only writes answers: how many bytes or entries were written, or the refusal.
+pub enum Writing {
+    Written(usize),
+    Refused(Refusal),
+}

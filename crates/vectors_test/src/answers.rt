@@ -12,6 +12,7 @@ use placement::PlacementHead;
 use planner::PlanAnswer;
 use planner::PlanResult;
 use refusal::Refusal;
+use refusal::Writing;
 use report::Reply;
 ghost use lib.ListN.{length};
 
@@ -146,5 +147,13 @@ pub(crate) fn replied(reply: Reply) -> [usize; 18] {
     match reply {
         Reply::Written(n) => numbers(0, n, 0),
         Reply::Refused(e) => refused(e),
+    }
+}
+
+// How many bytes or entries were written.
+pub(crate) fn wrote(writing: Writing) -> [usize; 18] {
+    match writing {
+        Writing::Written(n) => numbers(0, n, 0),
+        Writing::Refused(e) => refused(e),
     }
 }

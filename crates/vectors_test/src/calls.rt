@@ -59,6 +59,29 @@ fn replied(call: usize, input: &[u8], work: &mut [u16], out: &mut [u8]) -> [usiz
     answers::replied(report_plan::plan_reply(input, work, out))
 }
 
+// Puts the entries into the output, two bytes each, lowest first, as far as it reaches.
+fn spread(entries: &[u16], out: &mut [u8]) {
+    let mut i: usize = 0;
+    let mut at: usize = 0;
+    while i < entries.len() {
+        if out.len() - at < 2 {
+            return;
+        }
+        let v = entries[i];
+        out[at] = (v % 256) as u8;
+        out[at + 1] = (v / 256 % 256) as u8;
+        i += 1;
+        at += 2;
+    }
+}
+
+// The curve; its entries, and those after them, are compared as bytes.
+fn curve(input: &[u8], work: &mut [u16], out: &mut [u8]) -> [usize; 18] {
+    let answer = answers::wrote(curve_code::curve(input, work));
+    spread(work, out);
+    answer
+}
+
 // What the call answers.
 pub(crate) fn answer(
     call: usize,
@@ -72,6 +95,7 @@ pub(crate) fn answer(
         10 => plan(given, input, work, out),
         11 => crate::walks::walked(input, out),
         12 | 13 => replied(call, input, work, out),
+        14 => curve(input, work, out),
         _ => told(call, given, input),
     }
 }

@@ -1,13 +1,19 @@
 // Counting the vectors of each call, and printing the counts.
 use libc::STDOUT_FILENO;
 
-// The counts, a line of 14 for each refusal's number (0 for a result) and one for the vectors that do not agree; a line has a
-// place for each call, and its first count on the first line is that of all vectors.
-pub(crate) const COUNTS: usize = 14 * 14;
+// One more than the last call's number.
+const CALLS: usize = 15;
 
-// Where the count of a kind and a call stands; 13 is the kind of those that do not agree.
+// The kind of the vectors that do not agree: one more than the highest refusal's number.
+const WRONG: usize = 13;
+
+// The counts, a line for each refusal's number (0 for a result) and one for the vectors that do not agree; a line has a place
+// for each call, and its first count on the first line is that of all vectors.
+pub(crate) const COUNTS: usize = 32 * 32;
+
+// Where the count of a kind and a call stands.
 fn place_of(kind: usize, call: usize) -> usize {
-    14 * (kind % 14) + call % 14
+    32 * (kind % 32) + call % 32
 }
 
 // The count at `i`.
@@ -47,7 +53,7 @@ pub(crate) fn count(counts: &mut [usize], call: usize, kind: usize, good: bool) 
         raise(counts, place_of(kind, call));
         return;
     }
-    raise(counts, place_of(13, call));
+    raise(counts, place_of(WRONG, call));
     put(b"\nwrong: ", vector);
 }
 
@@ -55,7 +61,7 @@ pub(crate) fn count(counts: &mut [usize], call: usize, kind: usize, good: bool) 
 fn tell_kind(kind: usize, counts: &[usize]) {
     let mut call: usize = 4;
     put(b"\n", kind);
-    while call < 14 {
+    while call < CALLS {
         put(b" ", at(counts, place_of(kind, call)));
         call += 1;
     }
@@ -65,9 +71,9 @@ fn tell_kind(kind: usize, counts: &[usize]) {
 pub(crate) fn tell_kinds(counts: &[usize]) {
     let mut kind: usize = 0;
     say(
-        b"\nkind read_number read_within check_pack check_placement first_crowded write_number plan row_walk check_reply plan_reply",
+        b"\nkind read_number read_within check_pack check_placement first_crowded write_number plan row_walk check_reply plan_reply curve",
     );
-    while kind < 14 {
+    while kind <= WRONG {
         tell_kind(kind, counts);
         kind += 1;
     }

@@ -5,10 +5,10 @@ use Rattle.vectors_test.proofs.tell.tell_kind.Statement.{statement}
 use Rattle.vectors_test.proofs.tell.tell_kind.Tie as tie
 
 abbrev Inv-loop : tie.InvT-loop
-Inv-loop kind counts call₀ t5 call = call ≤ 14
+Inv-loop kind counts call₀ t5 call = call ≤ 32
 
 abbrev μ-loop : tie.MeasureT-loop
-μ-loop kind counts call₀ t5 call = 14 - call
+μ-loop kind counts call₀ t5 call = 32 - call
 
 slice-aggregate-put : tie.Need-slice-aggregate-put Inv-loop μ-loop
 slice-aggregate-put c = search needs

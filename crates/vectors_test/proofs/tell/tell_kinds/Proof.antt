@@ -5,10 +5,10 @@ use Rattle.vectors_test.proofs.tell.tell_kinds.Statement.{statement}
 use Rattle.vectors_test.proofs.tell.tell_kinds.Tie as tie
 
 abbrev Inv-loop : tie.InvT-loop
-Inv-loop counts kind₀ t4 kind = kind ≤ 14
+Inv-loop counts kind₀ t4 kind = kind ≤ 32
 
 abbrev μ-loop : tie.MeasureT-loop
-μ-loop counts kind₀ t4 kind = 14 - kind
+μ-loop counts kind₀ t4 kind = 32 - kind
 
 slice-aggregate-say : tie.Need-slice-aggregate-say Inv-loop μ-loop
 slice-aggregate-say c = search needs

@@ -1,0 +1,36 @@
+-- What the inner functions of the curve ask and give. Assumes nothing.
+use Prim.Native.Nat.{ℕ, _+_, _-_, _≤_}
+use mathlib.Core.List.{List, map}
+use lib.ListN.{take, length}
+use lib.Dec.{leb}
+use Rattle.lists.specs.Lists.{All, upTo}
+use Rattle.refusal.specs.declared.Refusal.the-variants.{ShortOutput}
+use Rattle.refusal.specs.Checked.{Checked, accepted, _>>=_, require}
+use Rattle.layers.specs.Layers.{sizes}
+use Rattle.layers.specs.declared.LayerHead.{LayerHead}
+use Rattle.placement.specs.Figure.{figureOf}
+use Rattle.placement.specs.declared.PlacementHead.{PlacementHead}
+
+-- lambda and c of the layers below s within their limits, in an array
+pub record LayersAsked (s b : ℕ) (layers : List LayerHead) : Type 0 where
+  pub s-most : s ≤ 5
+  pub held : s ≤ length layers
+  pub b-most : b ≤ 4_096
+  pub fit : sizes (take s layers) ≤ b
+  pub bounds : All (λ head. head .bound ≤ 16_777_216) (take s layers)
+
+-- the numbers of an accepted placement
+pub record CurveAsked (head : PlacementHead) (layers : List LayerHead) : Type 0 where
+  pub asked : LayersAsked (head .s) (head .b) layers
+  pub s-nodes : head .s ≤ head .n
+  pub n-most : head .n ≤ 255
+
+-- the figures for s, s + 1, .. failures
+abbrev pub figuresFrom : (s b : ℕ) (layers : List LayerHead) (entries : ℕ) → List ℕ
+figuresFrom s b layers entries = map (λ i. figureOf s (s + i) b (take s layers)) (upTo entries)
+
+-- what is left to do once the placement is accepted
+unfoldable pub curveFrom : PlacementHead → List LayerHead → (output : ℕ) → Checked (List ℕ)
+curveFrom head layers output = do
+  _ ← require (leb (head .n - head .s) output) (ShortOutput (head .n - head .s))
+  accepted (figuresFrom (head .s) (head .b) layers (head .n - head .s))

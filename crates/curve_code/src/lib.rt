@@ -1,0 +1,45 @@
+// The curve of a placement: its figure for every number of failures.
+mod binomials;
+mod figures;
+
+use layers::LayerHead;
+use placement::PlacementAnswer;
+use placement::PlacementHead;
+use refusal::Refusal;
+use refusal::Writing;
+ghost use lib.ListN.{length};
+ghost use Rattle.refusal.specs.Checked.{WritingDone};
+ghost use Rattle.curve.specs.Curve.{checkCurve};
+ghost use Rattle.curve.specs.Asked.{CurveAsked, curveFrom};
+
+// The curve of an accepted placement, where the output has room for it.
+fn write_accepted(head: PlacementHead, layers: [LayerHead; 5], out: &mut [u16]) -> Writing
+    requires { ⌜ CurveAsked head layers ⌝ }
+    ensures { λ r. ⌜ WritingDone (curveFrom head layers (length (now (out .entry)))) (now (out .entry)) (now (out .exit)) r ⌝ }
+{
+    let n = head.n;
+    let s = head.s;
+    let b = head.b;
+    let entries = n - s;
+    if out.len() < entries {
+        return Writing::Refused(Refusal::ShortOutput(entries));
+    }
+    figures::write_figures(s, b, layers, entries, out);
+    Writing::Written(entries)
+}
+
+// Checks a placement and puts its figure for each number of failures from s to n-1 at the start of `out`, lowest first;
+// answers the entries written. Refuses as `check_placement` does, then 11 where `out` has fewer than n - s entries.
+//
+// Each figure holds whichever nodes fail, and none is higher than one for fewer failures: `c-curve` in `promises`.
+pub fn curve(bytes: &[u8], out: &mut [u16]) -> Writing
+    ensures { λ r. ⌜ WritingDone (checkCurve (now (bytes .entry)) (length (now (out .entry)))) (now (out .entry)) (now (out .exit)) r ⌝ }
+{
+    let check = placement_code::check_placement(bytes);
+    let answer = check.answer;
+    let layers = check.layers;
+    match answer {
+        PlacementAnswer::Refused(e) => Writing::Refused(e),
+        PlacementAnswer::Accepted(head) => write_accepted(head, layers, out),
+    }
+}

@@ -1,0 +1,19 @@
+-- What can fail in a placement, and the figure for any number of failures. All that speaks of failures on a placement goes
+-- through `units` and `unitRows`. Assumes nothing.
+use Prim.Native.Nat.{ℕ}
+use mathlib.Core.List.{List}
+use Rattle.layers.specs.Layers.{allRows, headsOf}
+use Rattle.placement.specs.Figure.{figureOf}
+use Rattle.placement.specs.Placement.{Placement}
+
+-- how many units can fail: the nodes
+abbrev pub units : Placement → ℕ
+units p = p .n
+
+-- its rows as lists of units
+abbrev pub unitRows : Placement → List (List ℕ)
+unitRows p = allRows (p .layers)
+
+-- Document 02, (c): "the figure for each k' .., by the same formula with its own lambdas and counts"
+unfoldable pub figureAt : Placement → (k : ℕ) → ℕ
+figureAt p k = figureOf (p .s) k (p .b) (headsOf (p .layers))
