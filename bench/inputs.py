@@ -52,7 +52,7 @@ def placement(draw, n, r, k, sizes):
     layers = list(tight_layers(draw, n, r, sizes))
     heads = [(bound, len(rows)) for bound, rows in layers]
     b = sum(sizes)
-    head = [2, n, r, r, k, b, figure(r, k, b, heads)] + [v for pair in heads for v in pair]
+    head = [3, n, r, r, k, b, figure(3, r, k, b, heads)] + [v for pair in heads for v in pair]
     data = numbers(*head) + flat(layers)
     assert check_reply(data).startswith(b"accepted")
     return data
@@ -86,17 +86,15 @@ def check_inputs(draw):
 def plan_inputs(draw):
     yield "plan-nine", order(2, 3, 9) + P
     # s = r = 5. At k = 6 a copy of seven blocks costs less than seven records in every layer, so every layer's loss has steps
-    # that the planner must weigh.
-    def of(m):
-        return pack([(1, apart(m, 5))] * 5, NODES, 5)
-    seven = of(7)
-    yield "plan-m1", order(5, 6, MOST) + of(1)
-    yield "plan-m2", order(5, 5, MOST) + of(2)
-    yield "plan-m7", order(5, 6, MOST) + seven
-    yield "plan-m819", order(5, 6, MOST) + pack(list(tight_layers(draw, NODES, 5, [819] * 5)), NODES, 5)
-    yield "plan-m4096", order(5, 6, MOST) + pack(list(tight_layers(draw, NODES, 5, [0, 0, MOST, 0, 0])), NODES, 5)
+    # that the planner must weigh; at k = 254 no copy is of use.
+    packs = {m: pack([(1, apart(m, 5))] * 5, NODES, 5) for m in (1, 2, 7)}
+    packs[819] = pack(list(tight_layers(draw, NODES, 5, [819] * 5)), NODES, 5)
+    packs[4096] = pack(list(tight_layers(draw, NODES, 5, [0, 0, MOST, 0, 0])), NODES, 5)
+    for m, data in packs.items():
+        for k in (5, 6, 20, 254):
+            yield f"plan-m{m}-k{k}", order(5, k, MOST) + data
     for b in SIZES:
-        yield f"plan-b{b}", order(5, 6, b) + seven
+        yield f"plan-b{b}", order(5, 6, b) + packs[7]
 
 
 def inputs():

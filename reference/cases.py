@@ -3,12 +3,14 @@ ones. Nothing here depends on the time or the machine.
 """
 import random
 
-from document01 import LARGEST, check_placement, first_crowded, number_bytes, numbers, plan_reply, read_number
+from document01 import LARGEST, check_placement, figure, first_crowded, number_bytes, numbers, plan_reply, read_number
 from limits import largest_orders, largest_placements
 
 ROWS = "012 345 012 034 056 135 146 236 245".split()
 P = bytes([1, 7, 3, 1, 2, 1, 7, 1, 0]) + bytes(int(d) for row in ROWS for d in row)
-NINE = bytes([2, 7, 3, 2, 3, 9, 5, 1, 2, 1, 7]) + bytes(int(d) for row in ROWS for d in row)
+NINE = bytes([3, 7, 3, 2, 3, 9, 5, 1, 2, 1, 7]) + bytes(int(d) for row in ROWS for d in row)
+# seven records on P's layer 1 with s 3 and k 4, as kinds 2 and 3 (document 02 (d))
+SEVEN = {kind: bytes([kind, 7, 3, 3, 4, 7, figure, 0, 0, 1, 7, 0, 0]) + P[15:] for kind, figure in ((2, 5), (3, 6))}
 
 
 def order(s, k, b):
@@ -87,14 +89,30 @@ def padded(data, count):
         yield b"".join(in_groups(v, size) for v in head) + data[at:]
 
 
-def edge_placements():
+def of_kind(kind, data):
+    """The same rows as a placement of this kind, with this kind's figure."""
+    p = check_placement(data)
+    heads = [(bound, len(rows)) for bound, rows in p["layers"]]
+    f = figure(kind, p["s"], p["k"], p["b"], heads)
+    flat = [v for head in heads for v in head]
+    return numbers(kind, p["n"], p["r"], p["s"], p["k"], p["b"], f, *flat) + data[p["at"]:]
+
+
+def first_numbers():
+    """Every first number up to 7, and larger ones, before the rest of a placement and of a pack."""
+    for first in (*range(8), 127, 128, 130, 131, LARGEST):
+        for data in (NINE, SEVEN[2], P):
+            yield number_bytes(first) + data[1:]
+
+
+def edge_placements(kind):
     """Both sides of each limit of a placement's head; the rows are those of one layer."""
-    def file(n=7, r=3, s=2, k=3, b=1, figure=None, heads=None, row=(0, 1, 2), kind=2, tail=b""):
+    def file(n=7, r=3, s=2, k=3, b=1, figure=None, heads=None, row=(0, 1, 2), tail=b""):
         heads = [(0, 0), (1, b)] if heads is None else heads
         figure = b - min(b, 3) if figure is None else figure
         flat = [v for head in heads for v in head]
         return numbers(kind, n, r, s, k, b, figure, *flat) + bytes(row) * b + tail
-    yield from (b"", numbers(2), numbers(3), numbers(1, 7, 3), bytes([128, 0]), bytes([128] * 4), bytes([255] * 3))
+    yield from (b"", numbers(kind), numbers(1, 7, 3), bytes([128, 0]), bytes([128] * 4), bytes([255] * 3))
     for n in (0, 1, 2, 3, 254, 255, 256, 16_383, 16_384, LARGEST):
         yield file(n=n)
         yield file(n=n, r=2, s=2, k=1, row=(0, 1))
@@ -139,8 +157,12 @@ def check_inputs():
         yield NINE[:at]
         for step in (1, 127, 128, 255):
             yield NINE[:at] + bytes([(NINE[at] + step) % 256]) + NINE[at + 1:]
-    yield from edge_placements()
-    yield from largest_placements()
+    yield from first_numbers()
+    for kind in (3, 2):
+        yield SEVEN[kind]
+        yield SEVEN[kind][:6] + SEVEN[5 - kind][6:]
+        yield from edge_placements(kind)
+        yield from largest_placements(kind)
     yield from half_means()
     made = 0
     while made < 360:
@@ -150,6 +172,10 @@ def check_inputs():
             continue
         made += 1
         yield reply
+        old = of_kind(2, reply)
+        yield old
+        yield numbers(2) + reply[1:]
+        yield numbers(3) + old[1:]
         for _ in range(2):
             yield damaged(draw, reply)
         s = check_placement(reply)["s"]

@@ -1,5 +1,5 @@
 """Document 01 in its simplest form: packs, placements, planning, the row walk and the two programs' replies; with document
-02's requests (a) and (b).
+02's requests (a), (b) and (d).
 
 Written from the documents alone, with brute force where it can. Standard library only.
 """
@@ -64,11 +64,11 @@ def read_within(data, at, lo, hi):
     return value, after
 
 
-def read_kind(data, kind):
+def read_kind(data, kinds):
     value, after = read_number(data, 0)
-    if value != kind:
+    if value not in kinds:
         raise Refused(3, 0)
-    return after
+    return value, after
 
 
 # --- rows
@@ -119,7 +119,7 @@ def check_rows(data, at, n, r, heads):
 # --- packs
 
 def check_pack(data):
-    at = read_kind(data, 1)
+    _, at = read_kind(data, [1])
     n, at = read_within(data, at, 2, 255)
     r, at = read_within(data, at, 2, min(5, n))
     heads, so_far = [], 0
@@ -133,16 +133,34 @@ def check_pack(data):
 
 # --- placements
 
-def loss(s, k, x, bound, c):
-    return min(c, bound * comb(k, x + 1) // comb(s, x + 1))
+def one_floor(s, k, x, bound):
+    return bound * comb(k, x + 1) // comb(s, x + 1)
 
 
-def figure(s, k, b, heads):
-    return b - sum(loss(s, k, x, bound, c) for x, (bound, c) in enumerate(heads))
+def nested_floors(s, k, x, bound):
+    """Document 02 (d): "start with floor(lambda × (k-x) / (s-x)), then for i = x-1 down to 0 multiply by (k-i) and take the floor
+    after dividing by (s-i)"."""
+    most = bound * (k - x) // (s - x)
+    for i in range(x - 1, -1, -1):
+        most = most * (k - i) // (s - i)
+    return most
+
+
+# the rule of loss of each kind of placement, and the kind that the planner writes
+RULES = {2: one_floor, 3: nested_floors}
+PLANNED = 3
+
+
+def loss(kind, s, k, x, bound, c):
+    return min(c, RULES[kind](s, k, x, bound))
+
+
+def figure(kind, s, k, b, heads):
+    return b - sum(loss(kind, s, k, x, bound, c) for x, (bound, c) in enumerate(heads))
 
 
 def check_placement(data):
-    at = read_kind(data, 2)
+    kind, at = read_kind(data, RULES)
     n, at = read_within(data, at, 2, 255)
     r, at = read_within(data, at, 2, min(5, n))
     s, at = read_within(data, at, 1, r)
@@ -157,9 +175,9 @@ def check_placement(data):
         left -= c
         heads.append((bound, c))
     layers = check_rows(data, at, n, r, heads)
-    if f != figure(s, k, b, heads):
+    if f != figure(kind, s, k, b, heads):
         raise Refused(8, figure_at)
-    return {"n": n, "r": r, "s": s, "k": k, "b": b, "F": f, "at": at, "layers": layers}
+    return {"kind": kind, "n": n, "r": r, "s": s, "k": k, "b": b, "F": f, "at": at, "layers": layers}
 
 
 def usable(rows, s, failed):
@@ -174,13 +192,13 @@ def worst_case(placement):
 
 
 def curve(data, output=None):
-    """Document 02 (c): the figure for each number of failures from s to n-1. output: the entries lent, None for enough."""
+    """Document 02 (c), (d): the figure for each number of failures from s to n-1, by the rule of the file's kind. output: the entries lent, None for enough."""
     p = check_placement(data)
     n, s, b = p["n"], p["s"], p["b"]
     if output is not None and output < n - s:
         raise Refused(11, n - s)
     heads = [(bound, len(rows)) for bound, rows in p["layers"]]
-    return [figure(s, k, b, heads) for k in range(s, n)]
+    return [figure(p["kind"], s, k, b, heads) for k in range(s, n)]
 
 
 # --- planning
@@ -195,7 +213,7 @@ def named_split(layers, s, k, b):
     losses = []
     for x, (mu, blocks) in enumerate(layers[:s]):
         m = len(blocks)
-        losses.append([0] + [loss(s, k, x, least_copies(c, m) * mu, c) if m else no_split for c in range(1, b + 1)])
+        losses.append([0] + [loss(PLANNED, s, k, x, least_copies(c, m) * mu, c) if m else no_split for c in range(1, b + 1)])
     # rows[x][j]: the least loss of j records in the layers up to x. A layer's counts go down from j to 0, what is left for the
     # layers below goes up.
     rows = losses[:1]
@@ -222,7 +240,7 @@ def named_split_by_force(layers, s, k, b):
         if any(c and not layers[x][1] for x, c in enumerate(counts)):
             continue
         heads = [(least_copies(c, len(layers[x][1])) * layers[x][0], c) for x, c in enumerate(counts)]
-        ranked.append((figure(s, k, b, heads), tuple(reversed(counts)), counts))
+        ranked.append((figure(PLANNED, s, k, b, heads), tuple(reversed(counts)), counts))
     return max(ranked)[2]
 
 
@@ -252,8 +270,8 @@ def planned(data, s, k, b):
     n, r, layers = pack["n"], pack["r"], pack["layers"]
     counts = named_split(layers, s, k, b)
     heads = [(least_copies(c, len(layers[x][1])) * layers[x][0], c) for x, c in enumerate(counts)]
-    f = figure(s, k, b, heads)
-    out = numbers(2, n, r, s, k, b, f, *(v for head in heads for v in head))
+    f = figure(PLANNED, s, k, b, heads)
+    out = numbers(PLANNED, n, r, s, k, b, f, *(v for head in heads for v in head))
     for x, c in enumerate(counts):
         blocks = layers[x][1]
         out += b"".join(bytes(blocks[j % len(blocks)]) for j in range(c))

@@ -32,12 +32,12 @@ def heads(bounds, sizes):
     return [v for head in zip(bounds, sizes) for v in head]
 
 
-def placement(k, sizes, bounds=None, more=0):
+def placement(kind, k, sizes, bounds=None, more=0):
     """A placement with s = 5, its figure `more` than the formula's."""
     bounds = bounds or least_bounds(sizes)
     b = sum(sizes)
-    f = figure(ROW, k, b, list(zip(bounds, sizes))) + more
-    return numbers(2, NODES, ROW, ROW, k, b, f, *heads(bounds, sizes)) + rows(sizes)
+    f = figure(kind, ROW, k, b, list(zip(bounds, sizes))) + more
+    return numbers(kind, NODES, ROW, ROW, k, b, f, *heads(bounds, sizes)) + rows(sizes)
 
 
 def pack(sizes, bounds=None):
@@ -62,19 +62,19 @@ def past_the_buffer(data):
     return data.ljust(BUFFER + 1, b"\0")
 
 
-def largest_placements():
+def largest_placements(kind):
     for k in (5, 100, 254):
-        yield placement(k, EVERY_LAYER)
-    yield from refused_at_the_end(placement(100, EVERY_LAYER))
-    yield placement(100, EVERY_LAYER, more=1)
+        yield placement(kind, k, EVERY_LAYER)
+    yield from refused_at_the_end(placement(kind, 100, EVERY_LAYER))
+    yield placement(kind, 100, EVERY_LAYER, more=1)
     for bound in (1, 2):
-        yield twins(placement(100, EVERY_LAYER, least_bounds(EVERY_LAYER)[:-1] + [bound]))
-    yield placement(100, alone(1))
-    yield twins(placement(100, alone(2)))
-    yield past_the_buffer(placement(100, EVERY_LAYER))
+        yield twins(placement(kind, 100, EVERY_LAYER, least_bounds(EVERY_LAYER)[:-1] + [bound]))
+    yield placement(kind, 100, alone(1))
+    yield twins(placement(kind, 100, alone(2)))
+    yield past_the_buffer(placement(kind, 100, EVERY_LAYER))
     for bound in (LARGEST_BOUND, LARGEST_BOUND + 1):
         for x in range(ROW):
-            yield placement(254, [1] * ROW, [bound if y == x else 1 for y in range(ROW)])
+            yield placement(kind, 254, [1] * ROW, [bound if y == x else 1 for y in range(ROW)])
 
 
 def largest_orders():

@@ -11,7 +11,7 @@ import secrets
 import sys
 from pathlib import Path
 
-from cases import damaged, order, random_order, random_pack, renumbered
+from cases import damaged, of_kind, order, random_order, random_pack, renumbered
 from programs import Programs
 
 BUILT = Path(__file__).resolve().parent.parent / "target" / "bin"
@@ -26,6 +26,7 @@ def run_some(programs, draw):
     programs.run("plan", damaged(draw, data))
     if not placement.startswith(b"refused"):
         programs.run("check", placement)
+        programs.run("check", of_kind(2, placement))
         programs.run("check", damaged(draw, placement))
         programs.run("check", damaged(draw, placement))
         programs.run("check", renumbered(placement, draw.choice([6, 7 + 2 * draw.randrange(s)]), draw.choice([-1, 1])))

@@ -7,13 +7,14 @@ from pathlib import Path
 sys.path.insert(0, str(Path(__file__).resolve().parent))
 
 from document01 import (Refused, check_pack, check_placement, check_reply, comb, figure, first_crowded, named_split,
-                        named_split_by_force, number_bytes, plan, plan_reply, read_number, together, walk, worst_case)
-from cases import half_means, padded
+                        named_split_by_force, nested_floors, number_bytes, one_floor, plan, plan_reply, read_number, together, walk, worst_case)
+from cases import SEVEN, half_means, of_kind, padded
 from limits import largest_placements
 
 ROWS = "012 345 012 034 056 135 146 236 245".split()
 P = bytes([1, 7, 3, 1, 2, 1, 7, 1, 0]) + bytes(int(d) for row in ROWS for d in row)
-NINE = bytes([2, 7, 3, 2, 3, 9, 5, 1, 2, 1, 7]) + bytes(int(d) for row in ROWS for d in row)
+NINE = bytes([3, 7, 3, 2, 3, 9, 5, 1, 2, 1, 7]) + bytes(int(d) for row in ROWS for d in row)
+OLD_NINE = bytes([2]) + NINE[1:]
 
 
 def refusal(call, *args):
@@ -54,7 +55,7 @@ class Examples(unittest.TestCase):
 
     def test_orders(self):
         for s, k, b, f, counts in [(2, 2, 7, 6, None), (2, 3, 7, 4, None), (2, 3, 9, 5, (2, 7)), (2, 2, 9, 7, (0, 9)),
-                                   (3, 4, 7, 5, None), (2, 2, 1, 0, None)]:
+                                   (3, 4, 7, 6, (0, 7, 0)), (2, 2, 1, 0, None)]:
             out, figure_, found = plan(P, s, k, b)
             self.assertEqual(figure_, f)
             self.assertEqual(check_placement(out)["F"], f)
@@ -65,8 +66,23 @@ class Examples(unittest.TestCase):
         self.assertEqual(refusal(plan, P, 2, 3, 4097), (12, 2))
         self.assertEqual(check_placement(plan(P, 2, 3, 4096)[0])["b"], 4096)
 
+    def test_kinds(self):
+        """Document 02 (d): "figure 6 where it had 5"; any other first number is refusal 3."""
+        seven = plan(P, 3, 4, 7)[0]
+        self.assertEqual(seven, SEVEN[3])
+        self.assertEqual(check_placement(SEVEN[3])["F"], 6)
+        self.assertEqual(check_placement(SEVEN[2])["F"], 5)
+        self.assertEqual(of_kind(2, seven), SEVEN[2])
+        self.assertEqual(refusal(check_placement, bytes([2]) + SEVEN[3][1:]), (8, 6))
+        self.assertEqual(refusal(check_placement, bytes([3]) + SEVEN[2][1:]), (8, 6))
+        for first in (0, 1, 4, 5, 6, 127):
+            self.assertEqual(refusal(check_placement, bytes([first]) + NINE[1:]), (3, 0))
+        for first in (0, 2, 3, 4):
+            self.assertEqual(refusal(check_pack, bytes([first]) + P[1:]), (3, 0))
+
     def test_programs(self):
-        self.assertEqual(check_reply(NINE), b"accepted 5 9 3 7 4 4\n")
+        for nine in (NINE, OLD_NINE):
+            self.assertEqual(check_reply(nine), b"accepted 5 9 3 7 4 4\n")
         means = [int(check_reply(placement).split()[-1]) for placement in half_means()]
         self.assertEqual(means, [0, 1, 2, 2, 2, 3, 4, 4, 4, 5, 6, 6, 6, 7, 8, 8])
         self.assertEqual(plan_reply(bytes([2, 3, 9]) + P), NINE)
@@ -77,13 +93,17 @@ class Examples(unittest.TestCase):
 
 class Limits(unittest.TestCase):
     def test_largest_placements(self):
-        """Layer 0 loses 18 x k/5; layer 1, of 819 rows, C(k,2)/10; every later one C(k,x+1)/C(5,x+1) or all its 819."""
-        figures = {5: 4096 - 18 - 4, 100: 4096 - 360 - 495 - 3 * 819, 254: 0}
+        """Layer 0 loses 18 x k/5; layer 1, of 819 rows, C(k,2)/10 or, in kind 3, 99/4 x 100/5 with a floor each; every later one
+        all its 819, but 1 for k = 5."""
+        for kind, lost in ((2, 495), (3, 480)):
+            self.largest_placements(kind, {5: 4096 - 18 - 4, 100: 4096 - 360 - lost - 3 * 819, 254: 0})
+
+    def largest_placements(self, kind, figures):
         end = 25 + 5 * 4096
         expected = [b"accepted %d 4096 %d 255 90 80\n" % (f, k) for k, f in figures.items()]
         expected += [b"refused %d %d\n" % pair for pair in [(6, end - 5), (6, end - 5), (5, end), (1, end - 1), (8, 8),
                                                            (7, end - 10)]]
-        files = list(largest_placements())
+        files = list(largest_placements(kind))
         self.assertEqual(list(map(check_reply, files[:9])), expected)
         self.assertEqual([len(data) > 32_768 for data in files].count(True), 1)
 
@@ -124,12 +144,24 @@ class BruteForce(unittest.TestCase):
             placement = check_placement(out)
             self.assertEqual(placement["F"], f)
             self.assertGreaterEqual(worst_case(placement), f)
+            old = check_placement(of_kind(2, out))
+            self.assertLessEqual(old["F"], f)
+            self.assertEqual(worst_case(old), worst_case(placement))
             planned += 1
         self.assertGreater(planned, 60)
 
     def test_figure_has_one_floor_a_layer(self):
-        self.assertEqual(figure(3, 5, 20, [(1, 9), (1, 9), (0, 2)]), 16)
-        self.assertEqual(figure(2, 3, 9, [(3, 2), (1, 7)]), 4)
+        self.assertEqual(figure(2, 3, 5, 20, [(1, 9), (1, 9), (0, 2)]), 16)
+        self.assertEqual(figure(2, 2, 3, 9, [(3, 2), (1, 7)]), 4)
+
+    def test_nested_floors(self):
+        """3 x 2 is 6 and 6 x 3/2 is 9, where from i = 0 up 9/2 is 4 and 4 x 2 is 8; 5/2, 2 x 6/3, 4 x 7/4 make 7, where 35/4 is 8."""
+        self.assertEqual([nested_floors(2, 3, 1, 3), nested_floors(4, 7, 2, 1), one_floor(4, 7, 2, 1)], [9, 7, 8])
+        for s in range(1, 6):
+            for k in range(s, 12):
+                for x in range(s):
+                    for bound in range(20):
+                        self.assertLessEqual(nested_floors(s, k, x, bound), one_floor(s, k, x, bound))
 
 
 def refusal_of_layer(rows, x, mu):

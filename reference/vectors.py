@@ -13,7 +13,7 @@ from pathlib import Path
 sys.path.insert(0, str(Path(__file__).resolve().parent.parent / "packings"))
 
 import document01 as reference  # noqa: E402
-from cases import NINE, P, check_inputs, in_groups, padded, plan_inputs, random_rows  # noqa: E402
+from cases import NINE, P, SEVEN, check_inputs, in_groups, padded, plan_inputs, random_rows  # noqa: E402
 from check_packings import pack_bytes  # noqa: E402
 from constructions import catalogue  # noqa: E402
 from document01 import LARGEST, Refused, numbers  # noqa: E402
@@ -31,12 +31,12 @@ def layer_numbers(layers):
 
 def pack_values(data):
     pack = reference.check_pack(data)
-    return [pack["n"], pack["r"], 0, 0, 0, 0, pack["at"]] + layer_numbers(pack["layers"])
+    return [0, pack["n"], pack["r"], 0, 0, 0, 0, pack["at"]] + layer_numbers(pack["layers"])
 
 
 def placement_values(data):
     placement = reference.check_placement(data)
-    return [placement[name] for name in ("n", "r", "s", "k", "b", "F", "at")] + layer_numbers(placement["layers"])
+    return [placement[name] for name in ("kind", "n", "r", "s", "k", "b", "F", "at")] + layer_numbers(placement["layers"])
 
 
 def call_check_pack(script):
@@ -160,8 +160,9 @@ def number_vectors(script):
 
 
 def small_files(script):
-    """Document 01's pack and placement: whole, cut short at every length, and with every byte changed to every other value."""
-    for data, call, other in ((P, call_check_pack, call_check_placement), (NINE, call_check_placement, call_check_pack)):
+    """Document 01's pack and placement, and a placement of kind 2: whole, cut short at every length, and with every byte changed to every other value."""
+    for data, call, other in ((P, call_check_pack, call_check_placement), (NINE, call_check_placement, call_check_pack),
+                              (SEVEN[2], call_check_placement, call_check_pack)):
         script.read(data)
         other(script)
         for n in range(len(data) + 1):
@@ -200,12 +201,13 @@ def curve_vectors(script):
             continue
         for lent in (entries - 1, entries, entries + 1, 0):
             call_curve(script, lent)
-    for n, r, s, k in ((255, 5, 5, 5), (255, 5, 5, 254), (255, 5, 1, 254), (255, 2, 2, 128), (6, 5, 5, 5), (3, 2, 1, 2), (2, 2, 1, 1)):
-        rows = [tuple(range(r)), tuple(range(n - r, n))]
-        heads = [(2, 0)] * (s - 1) + [(2, 2)]
-        f = reference.figure(s, k, 2, heads)
-        data = numbers(2, n, r, s, k, 2, f, *(v for head in heads for v in head)) + bytes(v for row in rows for v in row)
-        script.read(data)
+    for kind, (n, r, s, k) in product((2, 3), ((255, 5, 5, 5), (255, 5, 5, 254), (255, 5, 1, 254), (255, 2, 2, 128), (6, 5, 5, 5),
+                                              (3, 2, 1, 2), (2, 2, 1, 1))):
+        rows = [tuple(range(r)), tuple(range(n - r, n))] * 20
+        heads = [(2, 0)] * (s - 1) + [(40, len(rows))]
+        f = reference.figure(kind, s, k, len(rows), heads)
+        head = numbers(kind, n, r, s, k, len(rows), f, *(v for bound in heads for v in bound))
+        script.read(head + bytes(v for row in rows for v in row))
         for lent in (n - s - 1, n - s, n - s + 2):
             call_curve(script, lent)
 
@@ -300,7 +302,8 @@ def padded_vectors(script):
             call_check_pack(script)
             call_plan(script, 2, 3, 9, 20, 91)
     wrong = NINE[:6] + bytes([4]) + NINE[7:]
-    for data in (NINE, NINE[:-1], NINE + b"\0", wrong, NINE[:-1] + bytes([6]), numbers(2, 7, 3, 2, 3, 9, 5, 1, 3, 1, 6) + NINE[11:]):
+    for data in (NINE, NINE[:-1], NINE + b"\0", wrong, NINE[:-1] + bytes([6]), numbers(3, 7, 3, 2, 3, 9, 5, 1, 3, 1, 6) + NINE[11:],
+                 SEVEN[2]):
         for placement in padded(data, 11):
             script.read(placement)
             call_check_placement(script)

@@ -29,7 +29,7 @@ pub struct Placement {
 impl<'a> Pack<'a> {
     pub fn check<T: PackingTest>(bytes: &'a [u8]) -> Result<Self, Refusal> {
         let mut head = Reader::new(bytes);
-        head.kind(1)?;
+        head.kind(&[1])?;
         let n = head.within(2, 255)?;
         let r = head.within(2, n.min(5))?;
         let mut layers = [Layer::default(); 5];
@@ -48,7 +48,7 @@ impl<'a> Pack<'a> {
 impl Placement {
     pub fn check<T: PackingTest>(bytes: &[u8]) -> Result<Self, Refusal> {
         let mut head = Reader::new(bytes);
-        head.kind(2)?;
+        let lost_by = if head.kind(&[2, 3])? == 2 { one_floor } else { nested_floors };
         let n = head.within(2, 255)?;
         let r = head.within(2, n.min(5))?;
         let s = head.within(1, r)?;
@@ -63,7 +63,7 @@ impl Placement {
             layer.bound = head.within(0, 16_777_216)?;
             layer.size = head.within(if x == s - 1 { left } else { 0 }, left)?;
             left -= layer.size;
-            lost += layer.size.min(layer.bound * choose(k, x + 1) / choose(s, x + 1));
+            lost += layer.size.min(lost_by(s, k, x, layer.bound));
         }
         let rows = rows_after(&head, b * r)?;
         let most = check_rows::<T>(rows, head.at, n, r, &layers[..s])?;
@@ -74,8 +74,18 @@ impl Placement {
     }
 }
 
+/// What k failures lose at most in layer x of a placement of kind 2.
+fn one_floor(s: usize, k: usize, x: usize, lambda: usize) -> usize {
+    lambda * choose(k, x + 1) / choose(s, x + 1)
+}
+
+/// The same in a placement of kind 3. Below 2^64 for lambda up to 2^24 and k up to 255.
+pub fn nested_floors(s: usize, k: usize, x: usize, lambda: usize) -> usize {
+    (0..=x).rev().fold(lambda, |lost, i| lost * (k - i) / (s - i))
+}
+
 /// C(m, j) for m up to 255 and j up to 5.
-pub fn choose(m: usize, j: usize) -> usize {
+fn choose(m: usize, j: usize) -> usize {
     (0..j).fold(1, |c, i| c * (m - i.min(m)) / (i + 1))
 }
 
@@ -174,6 +184,13 @@ mod tests {
         assert_eq!(choose(2, 3), 0);
         assert_eq!(choose(0, 0), 1);
         assert_eq!(choose(254, 5), 8_468_125_050);
+    }
+
+    #[test]
+    fn rules_of_loss() {
+        assert_eq!(nested_floors(2, 3, 1, 3), 9);
+        assert_eq!(nested_floors(4, 7, 2, 1), 7);
+        assert_eq!(one_floor(4, 7, 2, 1), 8);
     }
 
     #[test]

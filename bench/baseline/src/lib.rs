@@ -99,7 +99,7 @@ fn plan<T: PackingTest>(input: &[u8], fill: Fill) -> Result<Vec<u8>, Refusal> {
 fn placement(pack: &Pack, rules: &[Rule], counts: &[usize; 5], [s, k, b]: [usize; 3]) -> Vec<u8> {
     let lost: usize = rules.iter().zip(counts).map(|(rule, &c)| rule.loss(c)).sum();
     let mut out = Vec::with_capacity(64 + b * pack.r);
-    for v in [2, pack.n, pack.r, s, k, b, b - lost] {
+    for v in [3, pack.n, pack.r, s, k, b, b - lost] {
         push_number(&mut out, v);
     }
     for (x, rule) in rules.iter().enumerate() {
@@ -133,6 +133,7 @@ mod tests {
 
     fn both(input: &[u8]) -> Vec<u8> {
         let reply = plan_reply::<crowding::Counter>(input, split::by_recurrence);
+        assert_eq!(reply, plan_reply::<crowding::Counter>(input, split::by_entries));
         assert_eq!(reply, plan_reply::<sorted::Sorted>(input, split::by_candidates));
         reply
     }
@@ -146,14 +147,19 @@ mod tests {
     #[test]
     fn the_nine_records_are_planned_and_accepted() {
         let order = [&[2, 3, 9], &seven_cabinets()[..]].concat();
-        let placement = [&[2, 7, 3, 2, 3, 9, 5, 1, 2, 1, 7], &ROWS[..]].concat();
+        let mut placement = [&[3, 7, 3, 2, 3, 9, 5, 1, 2, 1, 7], &ROWS[..]].concat();
         assert_eq!(both(&order), placement);
-        assert_eq!(both_checks(&placement), b"accepted 5 9 3 7 4 4\n");
+        for kind in [3, 2] {
+            placement[0] = kind;
+            assert_eq!(both_checks(&placement), b"accepted 5 9 3 7 4 4\n");
+        }
+        placement[0] = 4;
+        assert_eq!(both_checks(&placement), b"refused 3 0\n");
     }
 
     #[test]
     fn figures_of_seven_cabinets() {
-        for (s, k, b, figure) in [(2, 2, 7, 6), (2, 3, 7, 4), (2, 3, 9, 5), (2, 2, 9, 7), (3, 4, 7, 5), (2, 2, 1, 0)] {
+        for (s, k, b, figure) in [(2, 2, 7, 6), (2, 3, 7, 4), (2, 3, 9, 5), (2, 2, 9, 7), (3, 4, 7, 6), (3, 4, 10, 7), (2, 2, 1, 0)] {
             let reply = both(&[&[s, k, b], &seven_cabinets()[..]].concat());
             assert_eq!(reply[6], figure, "s {s}, k {k}, b {b}");
             assert!(both_checks(&reply).starts_with(b"accepted"));

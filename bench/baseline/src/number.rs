@@ -45,8 +45,10 @@ impl<'a> Reader<'a> {
         if value < least || value > most { refused(4, start) } else { Ok(value) }
     }
 
-    pub fn kind(&mut self, kind: usize) -> Result<(), Refusal> {
-        if self.number()? == kind { Ok(()) } else { refused(3, 0) }
+    /// The file's kind, which is one of these.
+    pub fn kind(&mut self, kinds: &[usize]) -> Result<usize, Refusal> {
+        let kind = self.number()?;
+        if kinds.contains(&kind) { Ok(kind) } else { refused(3, 0) }
     }
 }
 

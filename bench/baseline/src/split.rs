@@ -1,24 +1,37 @@
 //! The named split: the highest figure, then the largest count in layer s-1, s-2, down to 0.
 
-use crate::file::{Layer, choose};
+use crate::file::{Layer, nested_floors};
 
 /// Above every loss of at most 4,096 records: no layer below has a block for them.
 const NO_SPLIT: i16 = 8192;
 
-/// A layer's loss: the smaller of c and floor(d × cost / divisor) with d copies of m blocks.
-#[derive(Clone, Copy, Default)]
+/// A layer's loss: the smaller of c and what d copies of m blocks lose. `period` copies more lose costs[period] more, whatever
+/// they add to.
+#[derive(Clone, Copy)]
 pub struct Rule {
     m: usize,
-    cost: u32,
-    divisor: u32,
+    period: usize,
+    costs: [i16; 121],
+}
+
+impl Default for Rule {
+    fn default() -> Self {
+        Rule { m: 0, period: 1, costs: [0; 121] }
+    }
 }
 
 impl Rule {
     pub fn new(s: usize, k: usize, x: usize, layer: &Layer) -> Self {
-        let divisor = choose(s, x + 1);
-        // A copy that costs 4,096 records or more costs all of them.
-        let cost = (layer.bound * choose(k, x + 1)).min(divisor * 4096);
-        Rule { m: layer.size, cost: cost as u32, divisor: divisor as u32 }
+        if layer.size == 0 {
+            return Rule::default();
+        }
+        let period = (s - x..=s).product();
+        let mut costs = [0; 121];
+        for (d, cost) in costs[..=period].iter_mut().enumerate() {
+            // Copies that cost more than 4,096 records cost all of them.
+            *cost = nested_floors(s, k, x, d * layer.bound).min(8192) as i16;
+        }
+        Rule { m: layer.size, period, costs }
     }
 
     /// The least copies with a block for each of c records.
@@ -31,7 +44,7 @@ impl Rule {
     }
 
     fn loss_of_copies(&self, d: usize) -> usize {
-        (d as u32 * self.cost / self.divisor) as usize
+        d / self.period * self.costs[self.period] as usize + self.costs[d % self.period] as usize
     }
 
     /// Each count's loss, from no record on.
@@ -45,7 +58,7 @@ impl Rule {
         } else {
             let mut count = 1;
             for (d, copy) in out[1..].chunks_mut(self.m).enumerate() {
-                let most = self.loss_of_copies(d + 1) as i16;
+                let most = self.loss_of_copies(d + 1).min(8192) as i16;
                 for loss in copy {
                     *loss = most.min(count);
                     count += 1;
@@ -57,7 +70,7 @@ impl Rule {
 
     /// A copy costs at least the records that it holds.
     fn every_record_lost(&self) -> bool {
-        self.cost as usize >= self.divisor as usize * self.m
+        self.costs[1] as usize >= self.m
     }
 }
 
@@ -111,34 +124,69 @@ fn sums(losses: &[i16], below: &[i16]) -> impl Iterator<Item = i16> {
     losses.iter().rev().zip(below).map(|(loss, under)| loss + under)
 }
 
-/// Two passes over the row. The loss is the smaller of two linear rules, one record for each record and `cost` for each
-/// copy, and under a linear rule an entry needs only the one a step before it: one record or copy more, or none at all.
-/// Floors are taken last: floor(d × cost / divisor) + l is floor((d × cost + divisor × l) / divisor), and the least floor
-/// is the floor of the least.
+/// The least losses where each record costs one, and those by whole periods of copies; an entry needs the one a step before it.
+fn by_steps(rule: &Rule, below: &[i16], out: &mut [i16], periods: &mut [i16]) {
+    let (whole, whole_size) = (rule.costs[rule.period], rule.period * rule.m);
+    let mut least = -1;
+    for j in 0..out.len() {
+        least = below[j].min(least + 1);
+        out[j] = least;
+        periods[j] = below[j].min(periods[j.saturating_sub(whole_size)] + whole);
+    }
+}
+
+/// One pass over the row for each number of copies below the period, which stand beside whole periods of them: of all copies
+/// that a period allows an entry needs only those. Copies past the row's start cost no less.
 pub fn by_recurrence(rule: &Rule, below: &[i16], out: &mut [i16]) {
     if rule.m == 0 {
         out.copy_from_slice(below);
         return;
     }
-    let mut least = -1;
-    for (out, &under) in out.iter_mut().zip(below) {
-        least = under.min(least + 1);
-        *out = least;
-    }
+    let mut periods = vec![0; out.len()];
+    by_steps(rule, below, out, &mut periods);
     if rule.every_record_lost() {
         return;
     }
-    // Products below 2^17 and divisors up to 10: the quotient by this multiplication is exact.
-    let inverse = (1u64 << 32) / u64::from(rule.divisor) + 1;
-    let below = &below[..out.len()];
-    for first in 1..out.len().min(rule.m + 1) {
-        let mut least = 0;
-        let mut j = first;
-        while j < out.len() {
-            least = (least + rule.cost).min(below[j] as u32 * rule.divisor);
-            out[j] = out[j].min(((u64::from(least) * inverse) >> 32) as i16);
-            j += rule.m;
+    for (out, whole) in out.iter_mut().zip(&periods) {
+        *out = (*out).min(*whole);
+    }
+    for d in 1..rule.period {
+        let (from, to) = ((d - 1) * rule.m + 1, (d * rule.m).min(out.len()));
+        if from >= out.len() {
+            break;
         }
+        let cost = rule.costs[d];
+        for out in &mut out[from..to] {
+            *out = (*out).min(cost + periods[0]);
+        }
+        for (out, whole) in out[to..].iter_mut().zip(&periods) {
+            *out = (*out).min(cost + whole);
+        }
+    }
+}
+
+/// The same entry by entry, with all its copies.
+pub fn by_entries(rule: &Rule, below: &[i16], out: &mut [i16]) {
+    if rule.m == 0 {
+        out.copy_from_slice(below);
+        return;
+    }
+    let mut periods = vec![0; out.len()];
+    by_steps(rule, below, out, &mut periods);
+    if rule.every_record_lost() {
+        return;
+    }
+    for (j, out) in out.iter_mut().enumerate() {
+        let mut least = (*out).min(periods[j]);
+        let mut place = j;
+        for &cost in &rule.costs[1..rule.period] {
+            if place == 0 {
+                break;
+            }
+            place = place.saturating_sub(rule.m);
+            least = least.min(cost + periods[place]);
+        }
+        *out = least;
     }
 }
 
@@ -168,8 +216,8 @@ pub fn by_candidates(rule: &Rule, below: &[i16], out: &mut [i16]) {
 mod tests {
     use super::*;
 
-    fn rule(m: usize, cost: u32, divisor: u32) -> Rule {
-        Rule { m, cost, divisor }
+    fn rule(s: usize, k: usize, x: usize, bound: usize, size: usize) -> Rule {
+        Rule::new(s, k, x, &Layer { bound, size })
     }
 
     fn by_definition(rule: &Rule, below: &[i16], out: &mut [i16]) {
@@ -180,21 +228,23 @@ mod tests {
     }
 
     #[test]
-    fn both_ways_fill_the_row_of_the_definition() {
+    fn every_way_fills_the_row_of_the_definition() {
         let width = 60;
         let mut first = vec![0; width];
-        for lowest in [rule(0, 5, 5), rule(1, 5, 5), rule(10, 23, 5), rule(100, 7, 2)] {
+        for lowest in [rule(5, 5, 0, 1, 0), rule(5, 5, 0, 1, 1), rule(5, 23, 0, 1, 10), rule(2, 7, 0, 1, 100)] {
             lowest.losses(&mut first);
             for m in [0, 1, 2, 3, 7, 10, 59, 60, 61, 4096] {
-                for divisor in [1, 3, 5, 10] {
-                    for cost in [divisor, divisor + 1, 2 * divisor + 1, 6 * divisor - 1, 9 * divisor, 4096 * divisor] {
-                        let rule = rule(m, cost, divisor);
-                        let mut rows = [vec![0; width], vec![0; width], vec![0; width]];
+                for (s, k, x) in [(5, 5, 1), (5, 6, 1), (5, 7, 2), (5, 9, 3), (5, 6, 4), (3, 4, 1), (4, 7, 2), (5, 254, 4)] {
+                    for mu in [1, 2, 3, 60, 4096] {
+                        let rule = rule(s, k, x, mu, m);
+                        let mut rows = [vec![0; width], vec![0; width], vec![0; width], vec![0; width]];
                         by_definition(&rule, &first, &mut rows[0]);
                         by_recurrence(&rule, &first, &mut rows[1]);
-                        by_candidates(&rule, &first, &mut rows[2]);
-                        assert_eq!(rows[0], rows[1], "m {m}, cost {cost}/{divisor}");
-                        assert_eq!(rows[0], rows[2], "m {m}, cost {cost}/{divisor}");
+                        by_entries(&rule, &first, &mut rows[2]);
+                        by_candidates(&rule, &first, &mut rows[3]);
+                        for row in &rows[1..] {
+                            assert_eq!(&rows[0], row, "s {s}, k {k}, x {x}, mu {mu}, m {m}");
+                        }
                     }
                 }
             }
@@ -202,11 +252,23 @@ mod tests {
     }
 
     #[test]
+    fn losses_repeat_with_the_period() {
+        for (s, k, x) in [(5, 6, 1), (5, 7, 2), (5, 9, 3), (5, 6, 4), (3, 4, 1), (4, 7, 2)] {
+            let rule = rule(s, k, x, 1, 1);
+            for d in 0..500 {
+                if rule.loss_of_copies(d) < 4096 {
+                    assert_eq!(rule.loss_of_copies(d), nested_floors(s, k, x, d), "s {s}, k {k}, x {x}, d {d}");
+                }
+            }
+        }
+    }
+
+    #[test]
     fn ties_go_to_the_highest_layer() {
-        let same = [rule(1, 1, 1), rule(1, 1, 1), rule(1, 1, 1)];
+        let same = [rule(1, 1, 0, 1, 1); 3];
         assert_eq!(named(&same, 9, by_recurrence), [0, 0, 9, 0, 0]);
         assert_eq!(named(&same[..1], 9, by_recurrence), [9, 0, 0, 0, 0]);
-        let empty_top = [rule(1, 1, 1), rule(1, 1, 1), rule(0, 1, 1)];
+        let empty_top = [same[0], same[1], Rule::default()];
         assert_eq!(named(&empty_top, 9, by_candidates), [0, 9, 0, 0, 0]);
     }
 }

@@ -1,11 +1,14 @@
 -- Rows of binomials as the code carries them. Assumes nothing.
-use Prim.Native.Nat.{ℕ, zero, suc, _+_, _^_, _≤_, _<_}
+use Prim.Native.Nat.{ℕ, zero, suc, _+_, _*_, _/_, _^_, _≤_, _<_}
 use native.Mathlib.Omega.{arith}
+use native.Mathlib.Numerals.{add-one}
 use mathlib.Core.Path.{_≡_, refl, _∙_, ap}
 use mathlib.Core.List.{List, [], _∷_}
 use lib.ListN.{getD}
 use Rattle.binomial.specs.Choose.{choose}
 use Rattle.binomial.proofs.Laws.{choose-lt}
+use Rattle.placement.specs.declared.Rule.the-variants.{OneFloor}
+use Rattle.placement.specs.Figure.{lostBy}
 use Rattle.curve.specs.Binomials.{binomialRow}
 
 entry : (m j : ℕ) → j ≤ 5 → getD (binomialRow m) j 0 ≡ choose m j
@@ -39,3 +42,9 @@ module _ (m : ℕ) {row : List ℕ} (is : row ≡ binomialRow m) where
       ≡ binomialRow (suc m)
   unfolding choose
   row-next = rw is refl
+
+-- the one floor from two entries
+pub one-floor : (s k x lambda : ℕ) {above below : ℕ} → above ≡ choose k (x + 1) → below ≡ choose s (x + 1)
+    → lambda * above / below ≡ lostBy OneFloor s k x lambda
+unfolding lostBy
+one-floor s k x lambda ea eb = rw (ea, eb, add-one x)

@@ -19,7 +19,7 @@ use Rattle.layers.specs.Answers.{noHead, fiveHeads}
 use Rattle.layers.specs.declared.LayerHead.{LayerHead}
 use Rattle.layers.proofs.Arrays.{take-five}
 use Rattle.placement.specs.Placement.{Placement, GoodPlacement, readPlacement, checkPlacement}
-use Rattle.placement.specs.Figure.{figureOf}
+use Rattle.placement.specs.Figure.{ruleOf, figureOf}
 use Rattle.placement.specs.Units.{figureAt}
 use Rattle.placement.specs.Answers.{placementHead, placementChecked}
 use Rattle.placement.specs.declared.PlacementHead.{PlacementHead}
@@ -40,12 +40,12 @@ module _ (head : PlacementHead) (layers : List LayerHead) (out : List ℕ) where
 
   -- the figures stand at the start of any other, which is else as it was
   pub curve-written : {left : List ℕ} → head .n - head .s ≤ length out
-      → left ≡ sets out 0 (figuresFrom (head .s) (head .b) layers (head .n - head .s))
+      → left ≡ sets out 0 (figuresFrom (ruleOf (head .kind)) (head .s) (head .b) layers (head .n - head .s))
       → WritingDone (curveFrom head layers (length out)) out left (Written (head .n - head .s))
   unfolding curveFrom
   curve-written enough is =
-      let figures = figuresFrom (head .s) (head .b) layers (head .n - head .s) in
-      let size = length-map-upTo (λ i. figureOf (head .s) (head .s + i) (head .b) (take (head .s) layers)) (head .n - head .s) in
+      let figures = figuresFrom (ruleOf (head .kind)) (head .s) (head .b) layers (head .n - head .s) in
+      let size = length-map-upTo (λ i. figureOf (ruleOf (head .kind)) (head .s) (head .s + i) (head .b) (take (head .s) layers)) (head .n - head .s) in
       rw (le-leb (head .n - head .s) (length out) enough)
       (record { answer = ap Written (sym size); output-after = is ∙ sets-start out figures (omega arith) })
 

@@ -8,7 +8,8 @@ use Rattle.refusal.specs.declared.Refusal.the-variants.{ShortOutput}
 use Rattle.refusal.specs.Checked.{Checked, accepted, _>>=_, require}
 use Rattle.layers.specs.Layers.{sizes}
 use Rattle.layers.specs.declared.LayerHead.{LayerHead}
-use Rattle.placement.specs.Figure.{figureOf}
+use Rattle.placement.specs.declared.Rule.{Rule}
+use Rattle.placement.specs.Figure.{ruleOf, figureOf}
 use Rattle.placement.specs.declared.PlacementHead.{PlacementHead}
 
 -- lambda and c of the layers below s within their limits, in an array
@@ -26,11 +27,11 @@ pub record CurveAsked (head : PlacementHead) (layers : List LayerHead) : Type 0 
   pub n-most : head .n ≤ 255
 
 -- the figures for s, s + 1, .. failures
-abbrev pub figuresFrom : (s b : ℕ) (layers : List LayerHead) (entries : ℕ) → List ℕ
-figuresFrom s b layers entries = map (λ i. figureOf s (s + i) b (take s layers)) (upTo entries)
+abbrev pub figuresFrom : Rule → (s b : ℕ) (layers : List LayerHead) (entries : ℕ) → List ℕ
+figuresFrom rule s b layers entries = map (λ i. figureOf rule s (s + i) b (take s layers)) (upTo entries)
 
 -- what is left to do once the placement is accepted
 unfoldable pub curveFrom : PlacementHead → List LayerHead → (output : ℕ) → Checked (List ℕ)
 curveFrom head layers output = do
   _ ← require (leb (head .n - head .s) output) (ShortOutput (head .n - head .s))
-  accepted (figuresFrom (head .s) (head .b) layers (head .n - head .s))
+  accepted (figuresFrom (ruleOf (head .kind)) (head .s) (head .b) layers (head .n - head .s))

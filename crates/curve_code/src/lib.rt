@@ -24,7 +24,8 @@ fn write_accepted(head: PlacementHead, layers: [LayerHead; 5], out: &mut [u16]) 
     if out.len() < entries {
         return Writing::Refused(Refusal::ShortOutput(entries));
     }
-    figures::write_figures(s, b, layers, entries, out);
+    let rule = placement_figure::rule_of(head.kind);
+    figures::write_figures(rule, s, b, layers, entries, out);
     Writing::Written(entries)
 }
 

@@ -22,7 +22,7 @@ base-refused (accepted b) is why = let v = ap (λ r. r .verdict) is in cc
 base-refused (refused e) is why = let v = ap (λ r. r .verdict) is in cc
 
 pub base-good : (m : Checked BaseReading) {read : BaseRead} → read ≡ baseRead m → read .verdict ≡ Good
-    → m ≡ accepted (record { base = read .base; next = read .next })
+    → m ≡ accepted (record { kind = read .kind; base = read .base; next = read .next })
 base-good (accepted b) is good = rw is refl
 base-good (refused e) is good =
     absurd (let v = ap (λ r. r .verdict) is in let z : _≡_ {A = ℕ} 0 1 = cc in omega arith)

@@ -5,65 +5,70 @@ use mathlib.Core.Path.{_≡_, refl, _∙_, ap, subst}
 use mathlib.Core.Bool.{Bool, true, false}
 use mathlib.Core.List.{List, [], _∷_}
 use lib.ListN.{length}
-use lib.Dec.{eqb}
-use borrow.Author.Tests.{eqb-true, eq-eqb}
+use lib.Dec.{T}
 use Rattle.lists.specs.Lists.{All, total}
+use Rattle.lists.proofs.Tests.{T-true, true-T}
 use Rattle.refusal.specs.declared.Refusal.the-variants.{WrongKind}
 use Rattle.refusal.specs.Checked.{accepted}
 use Rattle.refusal.proofs.Checked.{accepted-injective, bind-elim, require-bind-accepted}
 use Rattle.number.specs.Numbers.{readNumber, readWithin}
 use Rattle.number.specs.declared.Reading.{Reading}
 use Rattle.number.proofs.Within.{read-of-readWithin, readWithin-accepted}
-use Rattle.layers.specs.Layers.{LayerHeads, headNumbers, sizes, BaseReading, BaseLimits, leastSize, readKind, readBase, readLayers}
+use Rattle.layers.specs.Layers.{LayerHeads, headNumbers, sizes, BaseReading, BaseLimits, leastSize, isKind, readKind, readBase, readLayers}
+use Rattle.layers.specs.declared.FileKind.{FileKind}
 use Rattle.layers.specs.declared.LayerHead.{LayerHead}
 use Rattle.layers.specs.declared.LayerLimits.{LayerLimits}
 use Rattle.layers.proofs.NumbersRead.{Reads, reads-le-length}
 
 -- The first number is accepted exactly where it is read and is the file's kind.
-pub read-of-readKind : (kind : ℕ) (s : List ℕ) {n : Reading} → readKind kind s ≡ accepted n
-    → readNumber s 0 ≡ accepted (record { value = kind; next = n .next })
+pub read-of-readKind : (file : FileKind) (s : List ℕ) {n : Reading} → readKind file s ≡ accepted n
+    → (readNumber s 0 ≡ accepted n) × T (isKind file (n .value))
 unfolding readKind
-read-of-readKind kind s {n} e =
+read-of-readKind file s {n} e =
     bind-elim (readNumber s 0) _ e λ first read rest.
-    let (test, same) = require-bind-accepted (eqb (first .value) kind) WrongKind _ rest in
-    let is : first .value ≡ kind = eqb-true (first .value) kind test in
+    let (test, same) = require-bind-accepted (isKind file (first .value)) WrongKind _ rest in
     let eq : first ≡ n = accepted-injective same in
-    read ∙ (λ i. accepted (record { value = is i; next = (eq i) .next }))
+    (read ∙ ap accepted eq, rw eq at (T-true test))
 
-pub readKind-accepted : (kind : ℕ) (s : List ℕ) {next : ℕ}
+pub readKind-accepted : (file : FileKind) (kind : ℕ) (s : List ℕ) {next : ℕ} → T (isKind file kind)
     → readNumber s 0 ≡ accepted (record { value = kind; next = next })
-    → readKind kind s ≡ accepted (record { value = kind; next = next })
+    → readKind file s ≡ accepted (record { value = kind; next = next })
 unfolding readKind
-readKind-accepted kind s e = rw (e, eq-eqb kind kind refl)
+readKind-accepted file kind s is e = rw (e, true-T (isKind file kind) is)
 
 -- "The number 1; n; r", "The number 2; n; r": accepted exactly where they are read and within their limits
-pub reads-of-readBase : (kind : ℕ) (s : List ℕ) {b : BaseReading} → readBase kind s ≡ accepted b
-    → Reads (kind ∷ b .base .n ∷ b .base .r ∷ []) s 0 (b .next) × BaseLimits (b .base .n) (b .base .r)
+pub reads-of-readBase : (file : FileKind) (s : List ℕ) {b : BaseReading} → readBase file s ≡ accepted b
+    → Reads (b .kind ∷ b .base .n ∷ b .base .r ∷ []) s 0 (b .next) × BaseLimits (b .base .n) (b .base .r)
+    × T (isKind file (b .kind))
 unfolding readBase
-reads-of-readBase kind s e =
-    bind-elim (readKind kind s) _ e λ first e₁ r₁.
+reads-of-readBase file s e =
+    bind-elim (readKind file s) _ e λ first e₁ r₁.
     bind-elim (readWithin 2 255 s (first .next)) _ r₁ λ n e₂ r₂.
     bind-elim (readWithin 2 (min 5 (n .value)) s (n .next)) _ r₂ λ r e₃ r₃.
+    let (read₁, is) = read-of-readKind file s e₁ in
     let (read₂, n-least, n-most) = read-of-readWithin 2 255 s (first .next) e₂ in
     let (read₃, r-least, r-most) = read-of-readWithin 2 (min 5 (n .value)) s (n .next) e₃ in
     subst
-    (λ b. Reads (kind ∷ b .base .n ∷ b .base .r ∷ []) s 0 (b .next) × BaseLimits (b .base .n) (b .base .r))
+    (λ b. Reads (b .kind ∷ b .base .n ∷ b .base .r ∷ []) s 0 (b .next) × BaseLimits (b .base .n) (b .base .r)
+    × T (isKind file (b .kind)))
     (accepted-injective r₃) (
-      (first .next, read-of-readKind kind s e₁, (n .next, read₂, (r .next, read₃, refl))),
+      (first .next, read₁, (n .next, read₂, (r .next, read₃, refl))),
       record { n-least = omega arith; n-most = omega arith; r-least = omega arith; r-most = omega arith; r-nodes = omega arith },
+      is,
     )
 
 -- n and r end within the bytes
-pub readBase-inside : (kind : ℕ) (s : List ℕ) {b : BaseReading} → readBase kind s ≡ accepted b → b .next ≤ length s
-readBase-inside kind s {b} e =
-    reads-le-length (kind ∷ b .base .n ∷ b .base .r ∷ []) s 0 (b .next) (omega arith) (reads-of-readBase kind s e .0)
+pub readBase-inside : (file : FileKind) (s : List ℕ) {b : BaseReading} → readBase file s ≡ accepted b → b .next ≤ length s
+readBase-inside file s {b} e =
+    reads-le-length (b .kind ∷ b .base .n ∷ b .base .r ∷ []) s 0 (b .next) (omega arith) (reads-of-readBase file s e .0)
 
-pub readBase-accepted : (kind n r : ℕ) (s : List ℕ) (next : ℕ) → Reads (kind ∷ n ∷ r ∷ []) s 0 next → BaseLimits n r
-    → readBase kind s ≡ accepted (record { base = record { n = n; r = r }; next = next })
+pub readBase-accepted : (file : FileKind) (kind n r : ℕ) (s : List ℕ) (next : ℕ) → Reads (kind ∷ n ∷ r ∷ []) s 0 next
+    → T (isKind file kind) → BaseLimits n r
+    → readBase file s ≡ accepted (record { kind = kind; base = record { n = n; r = r }; next = next })
 unfolding readBase
-readBase-accepted kind n r s next (p, read₁, (q, read₂, (end, read₃, e))) l =
+readBase-accepted file kind n r s next (p, read₁, (q, read₂, (end, read₃, e))) is l =
     rw (
-      readKind-accepted kind s read₁,
+      readKind-accepted file kind s is read₁,
       readWithin-accepted 2 255 s p read₂ (omega (arith, l .n-least)) (omega (arith, l .n-most)),
       readWithin-accepted 2 (min 5 n) s q read₃ (omega (arith, l .r-least)) (omega (arith, l .r-most, l .r-nodes)),
       e,

@@ -1,37 +1,48 @@
--- Refusals of a file's first number mean what document 01's table says. Assumes nothing.
+-- A file's first number: its kinds, and that refusals of it mean what document 01's table says. Assumes nothing.
 use Prim.Native.Nat.{ℕ}
 use native.Mathlib.Omega.{arith}
 use mathlib.Core.Path.{_≡_, refl, sym, _∙_}
-use mathlib.Core.Logic.{_↔_, inl, inr}
+use mathlib.Core.Logic.{_↔_, _⊎_, inl, inr, ⊎-elim}
 use mathlib.Core.Bool.{Bool, true, false}
 use mathlib.Core.List.{List}
-use lib.Dec.{eqb}
-use borrow.Author.Tests.{eqb-false, ne-eqb}
+use Rattle.lists.proofs.Tests.{false-T, T-not-false, or-cases}
+use lib.Dec.{T, eqb, eqb→eq}
 use Rattle.refusal.specs.declared.Refusal.{Refusal}
 use Rattle.refusal.specs.declared.Refusal.the-variants.{WrongKind}
 use Rattle.refusal.specs.Checked.{Checked, accepted, refused, _>>=_, require}
 use Rattle.number.specs.Numbers.{readNumber}
 use Rattle.number.specs.declared.Reading.{Reading}
 use Rattle.number.proofs.Meaning.{number-refused-iff}
-use Rattle.layers.specs.Layers.{readKind}
+use Rattle.layers.specs.Layers.{isKind, readKind}
+use Rattle.layers.specs.declared.FileKind.{FileKind}
+use Rattle.layers.specs.declared.FileKind.the-variants.{Pack, Placement}
 use Rattle.layers.specs.Meaning.{KindRefused}
 
-pub kind-refused-iff : (kind : ℕ) (s : List ℕ) (e : Refusal) → (readKind kind s ≡ refused e) ↔ KindRefused kind s e
+-- a pack's first number is 1
+pub pack-kinds : (kind : ℕ) → T (isKind Pack kind) → kind ≡ 1
+pack-kinds kind t = eqb→eq kind 1 t
+
+-- a placement's is 2 or 3
+pub placement-kinds : (kind : ℕ) → T (isKind Placement kind) → (kind ≡ 2) ⊎ (kind ≡ 3)
+placement-kinds kind t =
+    ⊎-elim (λ two. inl (eqb→eq kind 2 two)) (λ three. inr (eqb→eq kind 3 three)) (or-cases (eqb kind 2) (eqb kind 3) t)
+
+pub kind-refused-iff : (file : FileKind) (s : List ℕ) (e : Refusal) → (readKind file s ≡ refused e) ↔ KindRefused file s e
 unfolding readKind
-kind-refused-iff kind s e = (λ p. to (readNumber s 0) refl p, from)
+kind-refused-iff file s e = (λ p. to (readNumber s 0) refl p, from)
   where
-    kinds : (n : Reading) (b : Bool) → eqb (n .value) kind ≡ b → readNumber s 0 ≡ accepted n
-        → (require b WrongKind >>= λ u. accepted n) ≡ refused e → KindRefused kind s e
+    kinds : (n : Reading) (b : Bool) → isKind file (n .value) ≡ b → readNumber s 0 ≡ accepted n
+        → (require b WrongKind >>= λ u. accepted n) ≡ refused e → KindRefused file s e
     kinds n true t r p = absurd (let z : _≡_ {A = ℕ} 0 1 = cc in omega arith)
     kinds n false t r p =
         let why : WrongKind ≡ e = cc in
-        inr (sym why, (n, r, eqb-false (n .value) kind t))
+        inr (sym why, (n, r, false-T t))
 
     to : (m : Checked Reading) → readNumber s 0 ≡ m
-        → (m >>= λ n. require (eqb (n .value) kind) WrongKind >>= λ u. accepted n) ≡ refused e → KindRefused kind s e
-    to (accepted n) r p = kinds n (eqb (n .value) kind) refl r p
+        → (m >>= λ n. require (isKind file (n .value)) WrongKind >>= λ u. accepted n) ≡ refused e → KindRefused file s e
+    to (accepted n) r p = kinds n (isKind file (n .value)) refl r p
     to (refused why) r p = inl (number-refused-iff s 0 e .0 (r ∙ p))
 
-    from : KindRefused kind s e → readKind kind s ≡ refused e
+    from : KindRefused file s e → readKind file s ≡ refused e
     from (inl h) = rw (number-refused-iff s 0 e .1 h)
-    from (inr (is, (n, r, other))) = rw (r, ne-eqb (n .value) kind other, is)
+    from (inr (is, (n, r, other))) = rw (r, T-not-false (isKind file (n .value)) other, is)

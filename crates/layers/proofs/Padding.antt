@@ -10,7 +10,7 @@ use mathlib.Core.List.{List, [], _∷_, _++_}
 use mathlib.Core.Option.{Option, none, some}
 use lib.ListN.{length, getD, drop, length-append, length-drop}
 use lib.Seq.{drop-append-seam}
-use lib.Dec.{leb, eqb}
+use lib.Dec.{leb}
 use borrow.Author.Tests.{leb-true, leb-false, le-leb, lt-leb}
 use Rattle.refusal.specs.declared.Refusal.the-variants.{BadRow, Crowded}
 use Rattle.refusal.specs.Checked.{Checked}
@@ -20,7 +20,8 @@ use Rattle.number.specs.Numbers.{Forms, readNumber, readWithin}
 use Rattle.number.specs.declared.Reading.{Reading}
 use Rattle.number.proofs.Alike.{ReadAlike, readNumber-alike}
 use Rattle.packing.specs.Rows.{firstBad}
-use Rattle.layers.specs.Layers.{Layer, LayerHeads, BaseReading, allRows, sizes, leastSize, firstCrowdedOf, layersAt, refuseRow, readKind, readBase, readLayers, checkLength, checkEnd, checkAscending, checkPackings, checkRows}
+use Rattle.layers.specs.Layers.{Layer, LayerHeads, BaseReading, allRows, sizes, leastSize, firstCrowdedOf, layersAt, refuseRow, isKind, readKind, readBase, readLayers, checkLength, checkEnd, checkAscending, checkPackings, checkRows}
+use Rattle.layers.specs.declared.FileKind.{FileKind}
 use Rattle.layers.specs.declared.Base.{Base}
 use Rattle.layers.specs.declared.LayerHead.{LayerHead}
 use Rattle.layers.specs.declared.LayerLimits.{LayerLimits}
@@ -109,15 +110,16 @@ module _ (s s′ : List ℕ) where
       agree-require _ _ _ _ _ _ (ap (λ v. leb lo v && leb v hi) (r .value)) refl (both-accepted r)
 
   -- the kind, n and r
-  readKind-padded : (kind : ℕ) (vs : List ℕ) → Padded vs s s′ 0 0
-      → Agree (NumberPadded vs s s′) (readKind kind s) (readKind kind s′)
+  readKind-padded : (file : FileKind) (vs : List ℕ) → Padded vs s s′ 0 0
+      → Agree (NumberPadded vs s s′) (readKind file s) (readKind file s′)
   unfolding readKind
-  readKind-padded kind vs p =
+  readKind-padded file vs p =
       agree-bind _ _ (readNumber-padded vs 0 0 p) λ n n′ r.
-      agree-require _ _ _ _ _ _ (ap (λ v. eqb v kind) (r .value)) refl (both-accepted r)
+      agree-require _ _ _ _ _ _ (ap (isKind file) (r .value)) refl (both-accepted r)
 
--- What two readings of n and r give.
+-- What two readings of the kind, n and r give.
 pub record BasePadded (vs s s′ : List ℕ) (b b′ : BaseReading) : Type 0 where
+  pub kind : b .kind ≡ b′ .kind
   pub base : b .base ≡ b′ .base
   pub third : 2 < length vs → b .base .r ≡ getD vs 2 0
   pub after : Padded (drop 3 vs) s s′ (b .next) (b′ .next)
@@ -142,11 +144,11 @@ after-third (a ∷ b ∷ []) = refl
 after-third (a ∷ b ∷ c ∷ vs) = refl
 
 module _ (s s′ : List ℕ) where
-  pub readBase-padded : (kind : ℕ) (vs : List ℕ) → Padded vs s s′ 0 0
-      → Agree (BasePadded vs s s′) (readBase kind s) (readBase kind s′)
+  pub readBase-padded : (file : FileKind) (vs : List ℕ) → Padded vs s s′ 0 0
+      → Agree (BasePadded vs s s′) (readBase file s) (readBase file s′)
   unfolding readBase
-  readBase-padded kind vs p =
-      agree-bind _ _ (readKind-padded s s′ kind vs p) λ first first′ r₁.
+  readBase-padded file vs p =
+      agree-bind _ _ (readKind-padded s s′ file vs p) λ first first′ r₁.
       agree-bind _ _ (readWithin-padded s s′ 2 255 (drop 1 vs) (first .next) (first′ .next) (r₁ .after)) λ n n′ r₂.
       rw
       (r₂ .value)
@@ -154,6 +156,7 @@ module _ (s s′ : List ℕ) where
       (readWithin-padded s s′ 2 (min 5 (n′ .value)) (drop 1 (drop 1 vs)) (n .next) (n′ .next) (r₂ .after)) λ r r′ r₃.
       both-accepted
       (record {
+        kind = r₁ .value;
         base = λ i. record { n = n′ .value; r = r₃ .value i };
         third = third-of vs (r₃ .first);
         after = rw (← after-third vs) (r₃ .after);

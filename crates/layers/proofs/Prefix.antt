@@ -15,6 +15,7 @@ use Rattle.number.specs.declared.Reading.{Reading}
 use Rattle.number.proofs.Laws.{read-next, read-local}
 use Rattle.number.proofs.Within.{read-of-readWithin}
 use Rattle.layers.specs.Layers.{LayerHeads, headNumbers, sizes, BaseReading, leastSize, readKind, readBase, readLayers, checkLength, checkEnd, checkRows}
+use Rattle.layers.specs.declared.FileKind.{FileKind}
 use Rattle.layers.specs.declared.Base.{Base}
 use Rattle.layers.specs.declared.LayerHead.{LayerHead}
 use Rattle.layers.specs.declared.LayerLimits.{LayerLimits}
@@ -22,11 +23,11 @@ use Rattle.layers.proofs.NumbersRead.{reads-next}
 use Rattle.layers.proofs.Heads.{fit-le, read-of-readKind, reads-of-readBase, reads-of-readLayers}
 
 -- the place after a number that was accepted, and after n and r
-pub readKind-next : (kind : ℕ) (s : List ℕ) {n : Reading} → readKind kind s ≡ accepted n → n .next ≤ 4
-readKind-next kind s e = omega (arith, read-next s 0 (read-of-readKind kind s e))
+pub readKind-next : (file : FileKind) (s : List ℕ) {n : Reading} → readKind file s ≡ accepted n → n .next ≤ 4
+readKind-next file s e = omega (arith, read-next s 0 (read-of-readKind file s e .0))
 
-pub readBase-next : (kind : ℕ) (s : List ℕ) {b : BaseReading} → readBase kind s ≡ accepted b → b .next ≤ 12
-readBase-next kind s {b} e = reads-next (kind ∷ b .base .n ∷ b .base .r ∷ []) s 0 (b .next) (reads-of-readBase kind s e .0)
+pub readBase-next : (file : FileKind) (s : List ℕ) {b : BaseReading} → readBase file s ≡ accepted b → b .next ≤ 12
+readBase-next file s {b} e = reads-next (b .kind ∷ b .base .n ∷ b .base .r ∷ []) s 0 (b .next) (reads-of-readBase file s e .0)
 
 pub readWithin-next : (lo hi : ℕ) (s : List ℕ) (at : ℕ) {n : Reading} → readWithin lo hi s at ≡ accepted n
     → n .next ≤ at + 4
@@ -39,19 +40,19 @@ headNumbers-two (head ∷ heads) = let rest = headNumbers-two heads in omega ari
 
 module _ (m : ℕ) (s : List ℕ) (long : m ≤ length s) where
   -- A number that starts four bytes or more before m is read from the first m bytes.
-  pub readKind-take : (kind : ℕ) → 4 ≤ m → readKind kind (take m s) ≡ readKind kind s
+  pub readKind-take : (file : FileKind) → 4 ≤ m → readKind file (take m s) ≡ readKind file s
   unfolding readKind
-  readKind-take kind h = rw (read-local m s 0 (omega arith) long)
+  readKind-take file h = rw (read-local m s 0 (omega arith) long)
 
   pub readWithin-take : (lo hi at : ℕ) → at + 4 ≤ m → readWithin lo hi (take m s) at ≡ readWithin lo hi s at
   unfolding readWithin
   readWithin-take lo hi at h = rw (read-local m s at h long)
 
-  pub readBase-take : (kind : ℕ) → 12 ≤ m → readBase kind (take m s) ≡ readBase kind s
+  pub readBase-take : (file : FileKind) → 12 ≤ m → readBase file (take m s) ≡ readBase file s
   unfolding readBase
-  readBase-take kind h =
-      bind-congr _ _ _ _ (readKind-take kind (omega arith)) λ first e₁.
-      let next₁ = readKind-next kind (take m s) e₁ in
+  readBase-take file h =
+      bind-congr _ _ _ _ (readKind-take file (omega arith)) λ first e₁.
+      let next₁ = readKind-next file (take m s) e₁ in
       bind-congr _ _ _ _ (readWithin-take 2 255 (first .next) (omega arith)) λ n e₂.
       let next₂ = readWithin-next 2 255 (take m s) (first .next) e₂ in
       bind-congr _ _ _ _ (readWithin-take 2 (min 5 (n .value)) (n .next) (omega arith)) (λ r e₃. refl)

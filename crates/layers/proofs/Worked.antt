@@ -3,12 +3,14 @@
 use Prim.Native.Nat.{ℕ}
 use mathlib.Core.Path.{_≡_, refl}
 use mathlib.Core.List.{List, [], _∷_, flatten}
+use mathlib.Core.Bool.{true, false}
 use mathlib.Core.Option.{none, some}
 use Rattle.lists.specs.Lists.{count, every, any, firstWhere, total}
 use Rattle.refusal.specs.declared.Refusal.the-variants.{Ended, Trailing, BadRow, Crowded}
 use Rattle.refusal.specs.Checked.{Checked, refused}
 use Rattle.packing.specs.Rows.{ascending, rowsAt, member, holds, together, subsets, crowded, firstCrowded, firstBad}
-use Rattle.layers.specs.Layers.{Layer, layersAt, firstCrowdedOf, checkLength, checkEnd, checkAscending, checkPackings, checkRows}
+use Rattle.layers.specs.Layers.{Layer, isKind, layersAt, firstCrowdedOf, checkLength, checkEnd, checkAscending, checkPackings, checkRows}
+use Rattle.layers.specs.declared.FileKind.the-variants.{Pack, Placement}
 
 -- the rows of two layers, with bounds 0 and 1
 abbrev pub rowsOf : List ℕ → Checked (List Layer)
@@ -35,3 +37,12 @@ pub layer-numbers :
     } ∷ []) ≡ some 2)
 unfolding count every any firstWhere member holds together subsets crowded firstCrowded firstCrowdedOf
 layer-numbers = (refl, refl)
+
+-- a pack's first number is 1, a placement's 2 or 3
+pub kinds : (isKind Pack 1 ≡ true)
+    × (isKind Pack 2 ≡ false)
+    × (isKind Placement 1 ≡ false)
+    × (isKind Placement 2 ≡ true)
+    × (isKind Placement 3 ≡ true)
+    × (isKind Placement 4 ≡ false)
+kinds = (refl, refl, refl, refl, refl, refl)

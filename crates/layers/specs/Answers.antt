@@ -20,8 +20,8 @@ abbrev pub fiveHeads : List LayerHead → List LayerHead
 fiveHeads heads = five noHead heads
 
 abbrev pub baseRead : Checked BaseReading → BaseRead
-baseRead (accepted b) = record { verdict = Good; base = b .base; next = b .next }
-baseRead (refused e) = record { verdict = Refused e; base = record { n = 0; r = 0 }; next = 0 }
+baseRead (accepted b) = record { verdict = Good; kind = b .kind; base = b .base; next = b .next }
+baseRead (refused e) = record { verdict = Refused e; kind = 0; base = record { n = 0; r = 0 }; next = 0 }
 
 abbrev pub layersRead : Checked LayerHeads → LayersRead
 layersRead (accepted layers) = record { verdict = Good; heads = fiveHeads (layers .heads); next = layers .next }

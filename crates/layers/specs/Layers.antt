@@ -1,7 +1,7 @@
 -- What document 01's "Pack" and "Placement" share: layers, their numbers in the head, and their rows. Assumes nothing.
 use Prim.Native.Nat.{ℕ, zero, suc, _+_, _*_, _-_, _≤_, min}
 use mathlib.Core.Path.{_≡_}
-use mathlib.Core.Bool.{Bool, true, false}
+use mathlib.Core.Bool.{Bool, true, false, _||_}
 use mathlib.Core.List.{List, [], _∷_, _++_, map, flatten}
 use mathlib.Core.Option.{Option, none, some}
 use lib.ListN.{length, drop}
@@ -13,6 +13,8 @@ use Rattle.refusal.specs.Checked.{Checked, accepted, refused, _>>=_, require}
 use Rattle.number.specs.Numbers.{Forms, readNumber, readWithin}
 use Rattle.number.specs.declared.Reading.{Reading}
 use Rattle.packing.specs.Rows.{Packing, rowsAt, firstBad, firstCrowded}
+use Rattle.layers.specs.declared.FileKind.{FileKind}
+use Rattle.layers.specs.declared.FileKind.the-variants.{Pack, Placement}
 use Rattle.layers.specs.declared.Base.{Base}
 use Rattle.layers.specs.declared.LayerHead.{LayerHead}
 use Rattle.layers.specs.declared.LayerLimits.{LayerLimits}
@@ -80,25 +82,32 @@ pub record LayerHeads : Type 0 where
   pub heads : List LayerHead
   pub next : ℕ
 
+-- the first numbers of each file: a pack's is "The number 1", a placement's "The number 2" or, by document 02's request (d),
+-- 3: "A placement of kind 3"
+abbrev pub isKind : FileKind → (first : ℕ) → Bool
+isKind Pack first = eqb first 1
+isKind Placement first = eqb first 2 || eqb first 3
+
 -- "the first number is not the file's kind": refusal 3
-unfoldable pub readKind : (kind : ℕ) → List ℕ → Checked Reading
-readKind kind s = do
+unfoldable pub readKind : FileKind → List ℕ → Checked Reading
+readKind file s = do
   first ← readNumber s 0
-  _ ← require (eqb (first .value) kind) WrongKind
+  _ ← require (isKind file (first .value)) WrongKind
   accepted first
 
--- n and r, and the next place
+-- the kind that was read, n and r, and the next place
 pub record BaseReading : Type 0 where
+  pub kind : ℕ
   pub base : Base
   pub next : ℕ
 
 -- "The number 1; n; r", "The number 2; n; r": what every file begins with
-unfoldable pub readBase : (kind : ℕ) → List ℕ → Checked BaseReading
-readBase kind s = do
-  first ← readKind kind s
+unfoldable pub readBase : FileKind → List ℕ → Checked BaseReading
+readBase file s = do
+  first ← readKind file s
   n ← readWithin 2 255 s (first .next)
   r ← readWithin 2 (min 5 (n .value)) s (n .next)
-  accepted (record { base = record { n = n .value; r = r .value }; next = r .next })
+  accepted (record { kind = first .value; base = record { n = n .value; r = r .value }; next = r .next })
 
 -- the two numbers of each of `left` layers, where the sizes may still sum to `room`
 unfoldable pub readLayers : LayerLimits → (left room : ℕ) → List ℕ → (at : ℕ) → Checked LayerHeads

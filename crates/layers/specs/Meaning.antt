@@ -13,7 +13,8 @@ use Rattle.number.specs.Numbers.{readNumber}
 use Rattle.number.specs.declared.Reading.{Reading}
 use Rattle.number.specs.Meaning.{NumberRefused}
 use Rattle.packing.specs.Rows.{inOrder, Row, CrowdedSet}
-use Rattle.layers.specs.Layers.{Layer, Packings, sizes, allRows, layersAt}
+use Rattle.layers.specs.Layers.{Layer, Packings, sizes, allRows, layersAt, isKind}
+use Rattle.layers.specs.declared.FileKind.{FileKind}
 use Rattle.layers.specs.declared.Base.{Base}
 use Rattle.layers.specs.declared.LayerHead.{LayerHead}
 
@@ -35,10 +36,10 @@ CrowdedAt x (layer ∷ layers) i =
     ⊎ ((length (layer .rows) ≤ i) × CrowdedAt (suc x) layers (i - length (layer .rows)))
 
 -- The first number is checked for 1, 2, then 3: "the first number is not the file's kind"
-abbrev pub KindRefused : (kind : ℕ) → List ℕ → Refusal → Type 0
-KindRefused kind s e =
+abbrev pub KindRefused : FileKind → List ℕ → Refusal → Type 0
+KindRefused file s e =
     NumberRefused s 0 e
-    ⊎ ((e ≡ WrongKind) × ((n : Reading) × (readNumber s 0 ≡ accepted n) × (n .value ≡ kind → ⊥)))
+    ⊎ ((e ≡ WrongKind) × ((n : Reading) × (readNumber s 0 ≡ accepted n) × (T (isKind file (n .value)) → ⊥)))
 
 -- The table's rows 1, 5, 6 and 7 for rows that start at `at`, each with its place, where none of those before it holds; no
 -- other refusal is given for rows.

@@ -1,6 +1,12 @@
 // What packs and placements share: what reading their heads and checking their rows gives.
 use refusal::Verdict;
 
+// Which file is read: each has its own first numbers.
+pub enum FileKind {
+    Pack,
+    Placement,
+}
+
 // What every file has after its kind: n nodes and r replicas.
 pub struct Base {
     pub n: usize,
@@ -10,6 +16,7 @@ pub struct Base {
 // What reading the kind, n and r gives, with the next place; all numbers are 0 beside a refusal.
 pub struct BaseRead {
     pub verdict: Verdict,
+    pub kind: usize,
     pub base: Base,
     pub next: usize,
 }

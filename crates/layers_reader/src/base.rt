@@ -1,25 +1,39 @@
 // Reading a file's kind, n and r.
 use layers::Base;
 use layers::BaseRead;
+use layers::FileKind;
 use number::NumberRead;
 use refusal::Refusal;
 use refusal::Verdict;
 ghost use mathlib.Core.Path.{_≡_};
 ghost use Rattle.refusal.specs.Checked.{refused};
 ghost use Rattle.number.specs.Answers.{numberRead};
-ghost use Rattle.layers.specs.Layers.{readKind, readBase};
+ghost use Rattle.layers.specs.Layers.{isKind, readKind, readBase};
 ghost use Rattle.layers.specs.Answers.{baseRead};
 
+// Whether such a file may begin with this number.
+fn is_kind(file: FileKind, first: usize) -> bool
+    ensures { λ t. ⌜ t ≡ isKind file first ⌝ }
+{
+    if let FileKind::Pack = file {
+        return first == 1;
+    }
+    if first == 2 {
+        return true;
+    }
+    first == 3
+}
+
 // The file's first number with the place after it, or refusal 1, 2 or 3.
-fn read_kind(bytes: &[u8], kind: usize) -> NumberRead
-    ensures { λ r. ⌜ r ≡ numberRead (readKind kind (now (bytes .entry))) ⌝ }
+fn read_kind(bytes: &[u8], file: FileKind) -> NumberRead
+    ensures { λ r. ⌜ r ≡ numberRead (readKind file (now (bytes .entry))) ⌝ }
 {
     let first = number_code::read_number(bytes, 0);
     let NumberRead::Value(number) = first else {
         return first;
     };
     let v = number.value;
-    if v == kind {
+    if is_kind(file, v) {
         return first;
     }
     NumberRead::Refused(Refusal::WrongKind)
@@ -31,20 +45,21 @@ fn refuse(e: Refusal) -> BaseRead
 {
     BaseRead {
         verdict: Verdict::Refused(e),
+        kind: 0,
         base: Base { n: 0, r: 0 },
         next: 0,
     }
 }
 
-// n and r of a file of this kind with the place after them, or refusal 1, 2, 3 or 4.
-pub fn read_base(bytes: &[u8], kind: usize) -> BaseRead
-    ensures { λ r. ⌜ r ≡ baseRead (readBase kind (now (bytes .entry))) ⌝ }
+// The kind, n and r of such a file with the place after them, or refusal 1, 2, 3 or 4.
+pub fn read_base(bytes: &[u8], file: FileKind) -> BaseRead
+    ensures { λ r. ⌜ r ≡ baseRead (readBase file (now (bytes .entry))) ⌝ }
 {
-    let first = read_kind(bytes, kind);
-    let NumberRead::Value(kind_read) = first else {
+    let first = read_kind(bytes, file);
+    let NumberRead::Value(kind) = first else {
         return refuse(number_code::refusal_of(first));
     };
-    let second = number_code::read_within(bytes, kind_read.next, 2, 255);
+    let second = number_code::read_within(bytes, kind.next, 2, 255);
     let NumberRead::Value(n) = second else {
         return refuse(number_code::refusal_of(second));
     };
@@ -54,6 +69,7 @@ pub fn read_base(bytes: &[u8], kind: usize) -> BaseRead
     };
     BaseRead {
         verdict: Verdict::Good,
+        kind: kind.value,
         base: Base {
             n: n.value,
             r: r.value,

@@ -9,7 +9,9 @@ use Rattle.refusal.specs.Checked.{accepted}
 use Rattle.refusal.proofs.Checked.{accepted-injective, bind-elim, mapAccepted-accepted}
 use Rattle.number.specs.Numbers.{Bytes}
 use Rattle.layers.specs.Layers.{Layer, Located, BaseLimits, allRows, headsOf, headNumbers, readBase, readLayers, checkRows}
+use Rattle.layers.specs.declared.FileKind.the-variants.{Pack as PackKind}
 use Rattle.layers.specs.declared.Base.{Base}
+use Rattle.layers.proofs.KindMeaning.{pack-kinds}
 use Rattle.layers.proofs.NumbersRead.{reads-append, reads-split}
 use Rattle.layers.proofs.Heads.{HeadsWithin, reads-of-readBase, readBase-accepted}
 use Rattle.layers.proofs.Files.{FileRead, LayersHeld, file-read, read-file, held-of-layers, heads-accepted, rows-accepted}
@@ -41,16 +43,17 @@ pub read-of-pack : (s : List ℕ) (p : Pack) (first : ℕ) → readPack s ≡ ac
     → FileRead (packNumbers p) (p .layers) s first × GoodPack p
 unfolding readPack
 read-of-pack s p first e =
-    bind-elim (readBase 1 s) _ e λ head e₁ r₁.
+    bind-elim (readBase PackKind s) _ e λ head e₁ r₁.
     bind-elim (readLayers packLayerLimits (head .base .r) 4_096 s (head .next)) _ r₁ λ numbers e₂ r₂.
     bind-elim (checkRows (head .base) (numbers .heads) s (numbers .next)) _ r₂ λ layers e₃ r₃.
-    let (reads, base) = reads-of-readBase 1 s e₁ in
+    let (reads, base, kind) = reads-of-readBase PackKind s e₁ in
+    let one : head .kind ≡ 1 = pack-kinds (head .kind) kind in
     let l = held-of-layers packLayerLimits (head .base) (head .base .r) 4_096 s (head .next) e₂ e₃ in
     subst
     (λ file. FileRead (packNumbers (file .content)) (file .content .layers) s (file .first) × GoodPack (file .content))
     (accepted-injective r₃) (
       record {
-        reads = reads-append (1 ∷ head .base .n ∷ head .base .r ∷ []) (headNumbers (headsOf layers)) s 0 (head .next) (numbers .next) reads (l .reads);
+        reads = reads-append (1 ∷ head .base .n ∷ head .base .r ∷ []) (headNumbers (headsOf layers)) s 0 (head .next) (numbers .next) (rw one at reads) (l .reads);
         inside = l .inside;
         rest = l .rest;
       },
@@ -76,7 +79,7 @@ pack-accepted s p first f g =
       packings = g .packings;
     } in
     rw (
-      readBase-accepted 1 (p .n) (p .r) s at reads (g .limits .base),
+      readBase-accepted PackKind 1 (p .n) (p .r) s at reads tt (g .limits .base),
       heads-accepted packLayerLimits base (p .r) 4_096 s at layers,
       rows-accepted packLayerLimits base (p .r) 4_096 s at layers,
     )

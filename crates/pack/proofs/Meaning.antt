@@ -7,11 +7,12 @@ use Rattle.refusal.specs.declared.Refusal.{Refusal}
 use Rattle.refusal.specs.Checked.{accepted, refused}
 use Rattle.refusal.proofs.Checked.{handed-on-refused, mapAccepted-refused}
 use Rattle.layers.specs.Layers.{BaseReading, LayerHeads, readBase, readLayers, checkRows}
+use Rattle.layers.specs.declared.FileKind.the-variants.{Pack as PackKind}
 use Rattle.layers.specs.Meaning.{RowsRefused}
 use Rattle.layers.proofs.Meaning.{rows-refused-iff}
 use Rattle.pack.specs.Pack.{packLayerLimits, readPack, checkPack}
 
-module _ (s : List ℕ) {head : BaseReading} {numbers : LayerHeads} (b : readBase 1 s ≡ accepted head)
+module _ (s : List ℕ) {head : BaseReading} {numbers : LayerHeads} (b : readBase PackKind s ≡ accepted head)
     (l : readLayers packLayerLimits (head .base .r) 4_096 s (head .next) ≡ accepted numbers) (e : Refusal) where
   -- the check is that of the rows
   rows-decide : (checkPack s ≡ refused e) ↔ (checkRows (head .base) (numbers .heads) s (numbers .next) ≡ refused e)

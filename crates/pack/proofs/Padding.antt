@@ -9,6 +9,7 @@ use lib.Dec.{leb}
 use borrow.Author.Tests.{leb-true, leb-false}
 use Rattle.refusal.specs.Agree.{Agree, both-accepted}
 use Rattle.refusal.proofs.Agree.{agree-bind, agree-map}
+use Rattle.layers.specs.declared.FileKind.the-variants.{Pack as PackKind}
 use Rattle.layers.proofs.Padding.{Padded, readBase-padded, readLayers-padded, checkRows-padded}
 use Rattle.pack.specs.Pack.{packLayerLimits, readPack, checkPack}
 
@@ -26,7 +27,7 @@ pub readPack-padded : (vs s s′ : List ℕ) → length vs ≤ 3 + 2 * getD vs 2
     → Agree (λ file file′. file .content ≡ file′ .content) (readPack s) (readPack s′)
 unfolding readPack
 readPack-padded vs s s′ most p =
-    agree-bind _ _ (readBase-padded s s′ 1 vs p) λ head head′ r₁.
+    agree-bind _ _ (readBase-padded s s′ PackKind vs p) λ head head′ r₁.
     let left = layers-left vs (head .base .r) most (r₁ .third) in
     rw
     (r₁ .base)

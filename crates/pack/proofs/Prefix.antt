@@ -7,6 +7,7 @@ use lib.ListN.{length, take}
 use Rattle.refusal.specs.Checked.{mapAccepted}
 use Rattle.refusal.proofs.Checked.{bind-congr}
 use Rattle.lists.proofs.Prefixes.{take-elim}
+use Rattle.layers.specs.declared.FileKind.the-variants.{Pack as PackKind}
 use Rattle.layers.proofs.Heads.{reads-of-readBase}
 use Rattle.layers.proofs.Prefix.{readBase-next, readBase-take, readLayers-take, layers-take}
 use Rattle.pack.specs.Pack.{packLayerLimits, readPack, checkPack}
@@ -16,9 +17,9 @@ use Rattle.pack.specs.Pack.{packLayerLimits, readPack, checkPack}
 within-reach : (m : ℕ) (s : List ℕ) → 20_532 < m → m ≤ length s → readPack (take m s) ≡ readPack s
 unfolding readPack
 within-reach m s h long =
-    bind-congr _ _ _ _ (readBase-take m s long 1 (omega arith)) λ head e₁.
-    let at₁ = readBase-next 1 (take m s) e₁ in
-    let most = reads-of-readBase 1 (take m s) e₁ .1 .r-most in
+    bind-congr _ _ _ _ (readBase-take m s long PackKind (omega arith)) λ head e₁.
+    let at₁ = readBase-next PackKind (take m s) e₁ in
+    let most = reads-of-readBase PackKind (take m s) e₁ .1 .r-most in
     bind-congr _ _ _ _ (readLayers-take m s long packLayerLimits (head .base .r) 4_096 (head .next) (omega arith)) λ numbers e₂.
     bind-congr _ _ _ _ (layers-take packLayerLimits (head .base) (head .base .r) 4_096 s (head .next) m long e₂ (omega arith)) λ layers e₃.
     refl

@@ -28,11 +28,12 @@ packs = (refl, refl, refl, refl)
 abbrev pub nodesOf : List ℕ → Checked ℕ
 nodesOf n = mapAccepted (λ p. p .n) (checkPack ((1 ∷ []) ++ n ++ (2 ∷ 1 ∷ 0 ∷ 1 ∷ 0 ∷ [])))
 
--- "So 255 nodes are taken and 256 are not"; 1 is not; and a placement's kind is not a pack's
+-- "So 255 nodes are taken and 256 are not"; 1 is not; and a placement's kinds are not a pack's
 pub pack-edges : (nodesOf (255 ∷ 1 ∷ []) ≡ accepted 255)
     × (nodesOf (128 ∷ 2 ∷ []) ≡ refused (OutsideLimits 1))
     × (nodesOf (2 ∷ []) ≡ accepted 2)
     × (nodesOf (1 ∷ []) ≡ refused (OutsideLimits 1))
     × (checkPack (2 ∷ 7 ∷ []) ≡ refused WrongKind)
+    × (checkPack (3 ∷ 7 ∷ []) ≡ refused WrongKind)
 unfolding count every any firstWhere total flatten readGroups readNumber readWithin firstBad readKind readLayers layersAt firstCrowdedOf checkLength checkEnd checkAscending checkPackings checkRows readBase readPack checkPack firstCrowded rowsAt
-pack-edges = (refl, refl, refl, refl, refl)
+pack-edges = (refl, refl, refl, refl, refl, refl)

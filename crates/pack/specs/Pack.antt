@@ -8,6 +8,7 @@ use Rattle.lists.specs.Lists.{All}
 use Rattle.refusal.specs.Checked.{Checked, accepted, _>>=_, mapAccepted}
 use Rattle.packing.specs.Rows.{Row}
 use Rattle.layers.specs.Layers.{Layer, allRows, Packings, headsOf, headNumbers, sizes, File, Located, BaseLimits, readBase, readLayers, checkRows}
+use Rattle.layers.specs.declared.FileKind.the-variants.{Pack as PackKind}
 use Rattle.layers.specs.declared.LayerLimits.{LayerLimits}
 
 -- n nodes, r replicas, and for each x from 0 to r-1 a layer of blocks with its mu
@@ -43,7 +44,7 @@ packLayerLimits = record { lo = 1; hi = 4_096; full = false }
 -- "Head numbers are checked in file order", then the rows: the pack with the place of its first block, or the refusal
 unfoldable pub readPack : List ℕ → Checked (Located Pack)
 readPack s = do
-  head ← readBase 1 s
+  head ← readBase PackKind s
   numbers ← readLayers packLayerLimits (head .base .r) 4_096 s (head .next)
   layers ← checkRows (head .base) (numbers .heads) s (numbers .next)
   accepted

@@ -11,6 +11,7 @@ use Rattle.refusal.proofs.Checked.{verdict-good, verdict-refused}
 use Rattle.layers.specs.Layers.{BaseLimits, sizes, readBase, readLayers, checkRows}
 use Rattle.layers.specs.declared.BaseRead.{BaseRead}
 use Rattle.layers.specs.declared.LayersRead.{LayersRead}
+use Rattle.layers.specs.declared.FileKind.the-variants.{Pack as PackKind}
 use Rattle.layers.specs.Answers.{baseRead, layersRead}
 use Rattle.layers.proofs.Heads.{reads-of-readBase, readBase-inside}
 use Rattle.layers.proofs.RowsChecked.{taken-of-checkRows, taken-heads}
@@ -20,17 +21,17 @@ use Rattle.pack.specs.Answers.{packChecked}
 use Rattle.pack.specs.declared.PackCheck.{PackCheck}
 use Rattle.pack.specs.declared.PackAnswer.the-variants.{Accepted}
 
-module _ (s : List ℕ) (head : BaseRead) (is : head ≡ baseRead (readBase 1 s)) where
+module _ (s : List ℕ) (head : BaseRead) (is : head ≡ baseRead (readBase PackKind s)) where
   pub pack-no-base : {e : Refusal} → head .verdict ≡ Refused e → packChecked (refused e) ≡ packChecked (readPack s)
   unfolding readPack
-  pack-no-base why = rw (base-refused (readBase 1 s) is why)
+  pack-no-base why = rw (base-refused (readBase PackKind s) is why)
 
   module _ (good : head .verdict ≡ Good) where
-    base-read : readBase 1 s ≡ accepted (record { base = head .base; next = head .next })
-    base-read = base-good (readBase 1 s) is good
+    base-read : readBase PackKind s ≡ accepted (record { kind = head .kind; base = head .base; next = head .next })
+    base-read = base-good (readBase PackKind s) is good
 
     pub pack-base-limits : BaseLimits (head .base .n) (head .base .r)
-    pack-base-limits = reads-of-readBase 1 s base-read .1
+    pack-base-limits = reads-of-readBase PackKind s base-read .1
 
     module _ (numbers : LayersRead) (are : numbers ≡ layersRead (readLayers packLayerLimits (head .base .r) 4_096 s (head .next))) where
       pub pack-no-layers : {e : Refusal} → numbers .verdict ≡ Refused e → packChecked (refused e) ≡ packChecked (readPack s)
@@ -42,7 +43,7 @@ module _ (s : List ℕ) (head : BaseRead) (is : head ≡ baseRead (readBase 1 s)
         layers = layers-good packLayerLimits (head .base .r) 4_096 s (head .next) are taken (pack-base-limits .r-most)
 
         pub blocks-asked : (numbers .next ≤ length s) × (sizes (take (head .base .r) (numbers .heads)) ≤ 4_096)
-        blocks-asked = (layers .inside (readBase-inside 1 s base-read), layers .within .fit)
+        blocks-asked = (layers .inside (readBase-inside PackKind s base-read), layers .within .fit)
 
         module _ (rows : Verdict)
             (checked : rows ≡ verdict (checkRows (head .base) (take (head .base .r) (numbers .heads)) s (numbers .next))) where

@@ -13,3 +13,4 @@ pub mod Load
 pub mod Found
 pub mod Subsets
 pub mod Failed
+pub mod Growth

@@ -4,6 +4,7 @@ use mathlib.Core.List.{[], _∷_, _++_}
 use mathlib.Core.Option.{none, some}
 use Rattle.lists.specs.Lists.{count, every, any, firstWhere, largest, upTo}
 use Rattle.packing.specs.Rows.{ascending, member, holds, together, subsets, crowded, firstCrowded, firstBad, repeated}
+use Rattle.packing.specs.Floors.{floorsDown}
 use Rattle.packing.specs.Failures.{usable}
 use Rattle.packing.specs.Load.{most}
 use Rattle.packing.specs.SevenCabinets.{rows0, rows1, row245}
@@ -43,3 +44,9 @@ loads = (refl, refl)
 pub repeats : repeated (rows1 row245) 9 ≡ rows1 row245 ++ (0 ∷ 1 ∷ 2 ∷ []) ∷ (0 ∷ 3 ∷ 4 ∷ []) ∷ []
 unfolding upTo repeated
 repeats = refl
+
+-- Request (d): 1 × 3 / 2 is 1 and 1 × 4 / 3 is 1, where 6/3 is 2; 3 × 2 is 6 and 6 × 3 / 2 is 9, where from i = 0 up 9/2 is 4
+-- and 4 × 2 is 8; 5/2 is 2, 2 × 6 / 3 is 4 and 4 × 7 / 4 is 7, where 35/4 is 8
+pub floors : (floorsDown 4 3 1 1 ≡ 1) × (floorsDown 3 2 1 3 ≡ 9) × (floorsDown 7 4 2 1 ≡ 7)
+unfolding floorsDown
+floors = (refl, refl, refl)

@@ -1,4 +1,5 @@
 pub mod Rows
+pub mod Floors
 pub mod Failures
 pub mod Load
 pub mod Answers

@@ -15,12 +15,13 @@ use Rattle.refusal.proofs.Checked.{accepted-injective, bind-elim, require-bind-
 use Rattle.number.specs.Numbers.{Bytes, readWithin}
 use Rattle.number.proofs.Within.{read-of-readWithin, readWithin-accepted}
 use Rattle.layers.specs.Layers.{Located, sizes, allRows, headsOf, headNumbers, readBase, readLayers, checkRows}
+use Rattle.layers.specs.declared.FileKind.the-variants.{Placement as PlacementKind}
 use Rattle.layers.specs.declared.Base.{Base}
-use Rattle.layers.specs.declared.LayerHead.{LayerHead}
 use Rattle.layers.proofs.NumbersRead.{Reads, reads-append, reads-split}
 use Rattle.layers.proofs.Heads.{SizesFit, HeadsWithin, reads-of-readBase, readBase-accepted, fit-full}
 use Rattle.layers.proofs.Files.{FileRead, LayersHeld, file-read, read-file, held-of-layers, heads-accepted, rows-accepted}
-use Rattle.placement.specs.Figure.{figureOf}
+use Rattle.placement.proofs.Losses.{figureOf-le}
+use Rattle.placement.specs.Figure.{ruleOf, figureOf}
 use Rattle.placement.specs.declared.Order.{Order}
 use Rattle.placement.specs.declared.Terms.{Terms}
 use Rattle.placement.specs.Placement.{Placement, PlacementFile, OrderLimits, PlacementLimits, GoodPlacement, TermsReading, placementNumbers, placementLayerLimits, readTerms, checkFigure, readPlacement, checkPlacement}
@@ -41,11 +42,6 @@ heads-within p l =
           (all-imp (λ layer. layer .bound ≤ 16_777_216) _ (λ layer h. (omega arith, h)) (p .layers) (l .lambda-most));
       fit = full-fit (p .s) (p .b) (sizes (headsOf (p .layers))) (l .records-all);
     }
-
--- "F (0..b)"
-figure-le : (s k b : ℕ) (heads : List LayerHead) → figureOf s k b heads ≤ b
-unfolding figureOf
-figure-le s k b heads = omega arith
 
 -- the numbers s, k, b and F as a list, and the order that they are
 abbrev pub termNumbers : Terms → List ℕ
@@ -108,14 +104,14 @@ pub read-of-placement : (bytes : List ℕ) (p : Placement) (first : ℕ)
     → FileRead (placementNumbers p) (p .layers) bytes first × GoodPlacement p
 unfolding readPlacement checkFigure
 read-of-placement bytes p first e =
-    bind-elim (readBase 2 bytes) _ e λ head e₁ r₁.
+    bind-elim (readBase PlacementKind bytes) _ e λ head e₁ r₁.
     bind-elim (readTerms (head .base) bytes (head .next)) _ r₁ λ order e₂ r₂.
     let t = order .terms in
     bind-elim (readLayers placementLayerLimits (t .s) (t .b) bytes (order .next)) _ r₂ λ numbers e₃ r₃.
     bind-elim (checkRows (head .base) (numbers .heads) bytes (numbers .next)) _ r₃ λ layers e₄ r₄.
-    let formula = figureOf (t .s) (t .k) (t .b) (headsOf layers) in
+    let formula = figureOf (ruleOf (head .kind)) (t .s) (t .k) (t .b) (headsOf layers) in
     let (test, same) = require-bind-accepted (eqb (t .figure) formula) (WrongFigure (t .place)) _ r₄ in
-    let (base-reads, base) = reads-of-readBase 2 bytes e₁ in
+    let (base-reads, base, kind) = reads-of-readBase PlacementKind bytes e₁ in
     let (reads, limits) = reads-of-readTerms (head .base) bytes (head .next) e₂ (base .n-least) in
     let l = held-of-layers placementLayerLimits (head .base) (t .s) (t .b) bytes (order .next) e₃ e₄ in
     let w = l .within in
@@ -124,7 +120,7 @@ read-of-placement bytes p first e =
     (accepted-injective same) (
       record {
         reads =
-            reads-append (2 ∷ head .base .n ∷ head .base .r ∷ []) (t .s ∷ t .k ∷ t .b ∷ t .figure ∷ headNumbers (headsOf layers)) bytes 0 (head .next) (numbers .next) base-reads
+            reads-append (head .kind ∷ head .base .n ∷ head .base .r ∷ []) (t .s ∷ t .k ∷ t .b ∷ t .figure ∷ headNumbers (headsOf layers)) bytes 0 (head .next) (numbers .next) base-reads
             (reads-append (termNumbers t) (headNumbers (headsOf layers)) bytes (head .next) (order .next) (numbers .next) reads (l .reads));
         inside = l .inside;
         rest = l .rest;
@@ -132,6 +128,7 @@ read-of-placement bytes p first e =
       record {
         limits =
             record {
+              kind = kind;
               base = base;
               order = limits;
               layer-each = sym (length-map layers _) ∙ w .layer-each;
@@ -152,8 +149,8 @@ placement-accepted bytes p first f g =
     let base : Base = record { n = p .n; r = p .r } in
     let heads = headNumbers (headsOf (p .layers)) in
     let terms = p .s ∷ p .k ∷ p .b ∷ p .figure ∷ [] in
-    let most : p .figure ≤ p .b = rw (g .formula) (figure-le (p .s) (p .k) (p .b) (headsOf (p .layers))) in
-    let (at₁, reads₁, after₁) = reads-split (2 ∷ p .n ∷ p .r ∷ []) (p .s ∷ p .k ∷ p .b ∷ p .figure ∷ heads) bytes 0 first (f .reads) in
+    let most : p .figure ≤ p .b = rw (g .formula) (figureOf-le (ruleOf (p .kind)) (p .s) (p .k) (p .b) (headsOf (p .layers))) in
+    let (at₁, reads₁, after₁) = reads-split (p .kind ∷ p .n ∷ p .r ∷ []) (p .s ∷ p .k ∷ p .b ∷ p .figure ∷ heads) bytes 0 first (f .reads) in
     let (at₂, reads₂, reads₃) = reads-split terms heads bytes at₁ first after₁ in
     let (place, terms-read) = terms-accepted p bytes at₁ at₂ reads₂ l most in
     let layers : LayersHeld placementLayerLimits base (p .s) (p .b) bytes at₂ first (p .layers) = record {
@@ -165,11 +162,11 @@ placement-accepted bytes p first f g =
       packings = g .packings;
     } in
     rw (
-      readBase-accepted 2 (p .n) (p .r) bytes at₁ reads₁ (l .base),
+      readBase-accepted PlacementKind (p .kind) (p .n) (p .r) bytes at₁ reads₁ (l .kind) (l .base),
       terms-read,
       heads-accepted placementLayerLimits base (p .s) (p .b) bytes at₂ layers,
       rows-accepted placementLayerLimits base (p .s) (p .b) bytes at₂ layers,
-      eq-eqb (p .figure) (figureOf (p .s) (p .k) (p .b) (headsOf (p .layers))) (g .formula),
+      eq-eqb (p .figure) (figureOf (ruleOf (p .kind)) (p .s) (p .k) (p .b) (headsOf (p .layers))) (g .formula),
     )
 
 -- The rows of an accepted placement stand from its first row's place to the end.

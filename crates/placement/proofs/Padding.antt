@@ -12,10 +12,11 @@ use Rattle.refusal.specs.Checked.{require}
 use Rattle.refusal.specs.Agree.{Agree, both-accepted, both-refused}
 use Rattle.refusal.proofs.Agree.{agree-bind}
 use Rattle.layers.specs.Layers.{Layer, headsOf, readLayers}
+use Rattle.layers.specs.declared.FileKind.the-variants.{Placement as PlacementKind}
 use Rattle.layers.specs.declared.Base.{Base}
 use Rattle.layers.specs.declared.LayerHead.{LayerHead}
 use Rattle.layers.proofs.Padding.{Padded, HeadsPadded, readWithin-padded, readBase-padded, readLayers-padded, checkRows-padded}
-use Rattle.placement.specs.Figure.{figureOf}
+use Rattle.placement.specs.Figure.{ruleOf, figureOf}
 use Rattle.placement.specs.declared.Terms.{Terms}
 use Rattle.placement.specs.Placement.{TermsReading, placementLayerLimits, placementOf, readTerms, checkFigure, readPlacement}
 
@@ -72,21 +73,21 @@ layers-left (a ∷ b ∷ c ∷ d ∷ vs) s most is =
     let same = is (omega arith) in
     rw (length-drop 3 vs) (omega arith)
 
-module _ {terms terms′ : Terms} (same : SameTerms terms terms′) where
+module _ (kind : ℕ) {terms terms′ : Terms} (same : SameTerms terms terms′) where
   -- the figure by the same numbers
-  figure-agree : (heads : List LayerHead) → Agree (λ u u′. Unit) (checkFigure terms heads) (checkFigure terms′ heads)
+  figure-agree : (heads : List LayerHead) → Agree (λ u u′. Unit) (checkFigure (ruleOf kind) terms heads) (checkFigure (ruleOf kind) terms′ heads)
   unfolding checkFigure
   figure-agree heads =
       rw
       (same .s-same, same .k-same, same .b-same, same .figure-same)
-      (go (eqb (terms′ .figure) (figureOf (terms′ .s) (terms′ .k) (terms′ .b) heads)))
+      (go (eqb (terms′ .figure) (figureOf (ruleOf kind) (terms′ .s) (terms′ .k) (terms′ .b) heads)))
     where
       go : (t : Bool)
           → Agree (λ u u′. Unit) (require t (WrongFigure (terms .place))) (require t (WrongFigure (terms′ .place)))
       go true = both-accepted tt
       go false = both-refused refl
 
-  same-placement : (base : Base) (layers : List Layer) → placementOf base terms layers ≡ placementOf base terms′ layers
+  same-placement : (base : Base) (layers : List Layer) → placementOf kind base terms layers ≡ placementOf kind base terms′ layers
   same-placement base layers = rw (same .s-same, same .k-same, same .b-same, same .figure-same)
 
 -- The head has 7 + 2s numbers: where the first of them are the same, and the same bytes follow them, so is the answer.
@@ -94,9 +95,9 @@ pub readPlacement-padded : (vs bytes bytes′ : List ℕ) → length vs ≤ 7 + 
     → Agree (λ file file′. file .content ≡ file′ .content) (readPlacement bytes) (readPlacement bytes′)
 unfolding readPlacement
 readPlacement-padded vs bytes bytes′ most p =
-    agree-bind _ _ (readBase-padded bytes bytes′ 2 vs p) λ head head′ r₁.
+    agree-bind _ _ (readBase-padded bytes bytes′ PlacementKind vs p) λ head head′ r₁.
     rw
-    (r₁ .base)
+    (r₁ .kind, r₁ .base)
     (agree-bind _ _ (readTerms-padded (head′ .base) (drop 3 vs) bytes bytes′ (head .next) (head′ .next) (r₁ .after))
     λ order order′ r₂.
     let left = layers-left vs (order .terms .s) most (r₂ .first) in
@@ -114,5 +115,5 @@ readPlacement-padded vs bytes bytes′ most p =
     λ layers layers′ same.
     rw
     same
-    (agree-bind _ _ (figure-agree (r₂ .same) (headsOf layers′)) λ u u′ t.
-    both-accepted (same-placement (r₂ .same) (head′ .base) layers′))))
+    (agree-bind _ _ (figure-agree (head′ .kind) (r₂ .same) (headsOf layers′)) λ u u′ t.
+    both-accepted (same-placement (head′ .kind) (r₂ .same) (head′ .base) layers′))))

@@ -8,6 +8,7 @@ use lib.ListN.{length, take}
 use Rattle.refusal.specs.Checked.{mapAccepted}
 use Rattle.refusal.proofs.Checked.{bind-congr}
 use Rattle.lists.proofs.Prefixes.{take-elim}
+use Rattle.layers.specs.declared.FileKind.the-variants.{Placement as PlacementKind}
 use Rattle.layers.specs.declared.Base.{Base}
 use Rattle.layers.proofs.NumbersRead.{reads-next}
 use Rattle.layers.proofs.Heads.{reads-of-readBase}
@@ -40,9 +41,9 @@ within-reach : (m : ℕ) (bytes : List ℕ) → 20_548 < m → m ≤ length byte
 unfolding readPlacement
 within-reach m bytes h long =
     let t = take m bytes in
-    bind-congr _ _ _ _ (readBase-take m bytes long 2 (omega arith)) λ head e₁.
-    let at₁ = readBase-next 2 t e₁ in
-    let base = reads-of-readBase 2 t e₁ .1 in
+    bind-congr _ _ _ _ (readBase-take m bytes long PlacementKind (omega arith)) λ head e₁.
+    let at₁ = readBase-next PlacementKind t e₁ in
+    let base = reads-of-readBase PlacementKind t e₁ .1 in
     bind-congr _ _ _ _ (readTerms-take m bytes long (head .base) (head .next) (omega arith)) λ order e₂.
     let (reads, limits) = reads-of-readTerms (head .base) t (head .next) e₂ (base .n-least) in
     let at₂ = reads-next (termNumbers (order .terms)) t (head .next) (order .next) reads in

@@ -10,36 +10,34 @@ use Rattle.lists.proofs.Arith.{div-le-div-right}
 use Rattle.binomial.specs.Choose.{choose}
 use Rattle.binomial.proofs.Laws.{choose-mono}
 use Rattle.packing.specs.Failures.{Failure, usable}
+use Rattle.packing.proofs.Growth.{floorsDown-grows}
 use Rattle.layers.specs.Layers.{headsOf}
 use Rattle.layers.specs.declared.LayerHead.{LayerHead}
-use Rattle.placement.specs.Figure.{loss, losses, figureOf}
+use Rattle.placement.specs.declared.Rule.{Rule}
+use Rattle.placement.specs.declared.Rule.the-variants.{OneFloor, NestedFloors}
+use Rattle.placement.specs.Figure.{ruleOf, lostBy, loss, losses, figureOf}
 use Rattle.placement.specs.Placement.{Placement, GoodPlacement}
 use Rattle.placement.specs.Units.{units, unitRows, figureAt}
 use Rattle.placement.proofs.Survivors.{sizes-le-losses}
 
--- more failures lose no less
-loss-grows : (s k k′ x : ℕ) (head : LayerHead) → k ≤ k′ → loss s k x head ≤ loss s k′ x head
-unfolding loss
-loss-grows s k k′ x head h =
-    let e = div-le-div-right (head .bound * choose k (suc x)) (head .bound * choose k′ (suc x)) (choose s (suc x))
-    (mul-le-mul-left (head .bound) (choose-mono k k′ (suc x) h)) in
-    omega arith
+-- more failures lose no less, by either rule
+lostBy-grows : (rule : Rule) (s k k′ x lambda : ℕ) → k ≤ k′ → lostBy rule s k x lambda ≤ lostBy rule s k′ x lambda
+unfolding lostBy
+lostBy-grows OneFloor s k k′ x lambda h =
+    div-le-div-right (lambda * choose k (suc x)) (lambda * choose k′ (suc x)) (choose s (suc x))
+    (mul-le-mul-left lambda (choose-mono k k′ (suc x) h))
+lostBy-grows NestedFloors s k k′ x lambda h = floorsDown-grows k k′ s x lambda h
 
-losses-grow : (s k k′ x : ℕ) (heads : List LayerHead) → k ≤ k′ → losses s k x heads ≤ losses s k′ x heads
-unfolding losses
-losses-grow s k k′ x [] h = omega arith
-losses-grow s k k′ x (head ∷ heads) h =
-    omega (arith, loss-grows s k k′ x head h, losses-grow s k k′ (suc x) heads h)
+losses-grow : (rule : Rule) (s k k′ x : ℕ) (heads : List LayerHead) → k ≤ k′ → losses rule s k x heads ≤ losses rule s k′ x heads
+unfolding losses loss
+losses-grow rule s k k′ x [] h = omega arith
+losses-grow rule s k k′ x (head ∷ heads) h =
+    omega (arith, lostBy-grows rule s k k′ x (head .bound) h, losses-grow rule s k k′ (suc x) heads h)
 
 -- Document 02, (c): "no figure on the curve is higher than one for fewer failures"
 pub figureAt-falls : (p : Placement) (k k′ : ℕ) → k ≤ k′ → figureAt p k′ ≤ figureAt p k
 unfolding figureAt figureOf
-figureAt-falls p k k′ h = omega (arith, losses-grow (p .s) k k′ 0 (headsOf (p .layers)) h)
-
--- at most all records
-pub figureAt-le : (p : Placement) (k : ℕ) → figureAt p k ≤ p .b
-unfolding figureAt figureOf
-figureAt-le p k = omega arith
+figureAt-falls p k k′ h = omega (arith, losses-grow (ruleOf (p .kind)) (p .s) k k′ 0 (headsOf (p .layers)) h)
 
 module _ (p : Placement) (good : GoodPlacement p) where
   -- "Each must hold whichever k' nodes fail"
@@ -47,7 +45,7 @@ module _ (p : Placement) (good : GoodPlacement p) where
       → figureAt p k ≤ usable (p .s) (unitRows p) failed
   unfolding figureAt figureOf
   figureAt-holds k failed e =
-      let layers = sizes-le-losses (p .n) (p .r) (p .s) k 0 (p .layers) failed (omega (arith, good .limits .layer-each)) (good .rows)
+      let layers = sizes-le-losses (ruleOf (p .kind)) (p .n) (p .r) (p .s) k 0 (p .layers) failed (omega (arith, good .limits .layer-each)) (good .rows)
       (good .packings) e in
       omega (arith, good .limits .records-all)
 

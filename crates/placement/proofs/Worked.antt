@@ -1,4 +1,4 @@
--- Document 01's placement of nine records, and losses worked by hand. Assumes nothing.
+-- Document 01's placement of nine records, as kinds 2 and 3, and losses worked by hand. Assumes nothing.
 use mathlib.Core.Path.{_≡_, refl}
 use mathlib.Core.List.{[], _∷_, flatten}
 use lib.ListN.{length}
@@ -7,30 +7,64 @@ use Rattle.refusal.specs.Refusals.{result, refusal}
 use Rattle.refusal.specs.Checked.{accepted}
 use Rattle.binomial.specs.Choose.{choose}
 use Rattle.number.specs.Numbers.{readGroups, readNumber, readWithin}
+use Rattle.packing.specs.Floors.{floorsDown}
 use Rattle.packing.specs.Rows.{ascending, rowsAt, member, holds, together, subsets, crowded, firstCrowded, firstBad}
 use Rattle.layers.specs.Layers.{headNumbers, readKind, readLayers, layersAt, firstCrowdedOf, readBase, checkLength, checkEnd, checkAscending, checkPackings, checkRows}
-use Rattle.placement.specs.Figure.{loss, losses, figureOf}
+use Rattle.placement.specs.Figure.{lostBy, loss, losses, figureOf}
+use Rattle.placement.specs.declared.Rule.the-variants.{OneFloor, NestedFloors}
 use Rattle.placement.specs.Placement.{readTerms, checkFigure, readPlacement, checkPlacement}
 use Rattle.placement.specs.Answers.{placementChecked, placementOutcome}
-use Rattle.placement.specs.SevenCabinets.{placementFile, sevenPlacement}
+use Rattle.placement.specs.SevenCabinets.{placementFile, sevenPlacement, sevenRecords}
 
 -- the 38 bytes are accepted with figure 5 and, at the figure's place 6, refused with another
-pub placements : (length (placementFile 5) ≡ 38)
-    × (checkPlacement (placementFile 5) ≡ accepted sevenPlacement)
-    × (placementOutcome (placementChecked (readPlacement (placementFile 5)))
-    ≡ result (7 ∷ 3 ∷ 2 ∷ 3 ∷ 9 ∷ 5 ∷ 11 ∷ 1 ∷ 2 ∷ 1 ∷ 7 ∷ 0 ∷ 0 ∷ 0 ∷ 0 ∷ 0 ∷ 0 ∷ []))
-    × (placementOutcome (placementChecked (readPlacement (placementFile 4))) ≡ refusal 8 6)
-unfolding count every any firstWhere total flatten choose readGroups readNumber readWithin ascending rowsAt member holds together subsets crowded firstCrowded firstBad readKind readLayers layersAt firstCrowdedOf readBase checkLength checkEnd checkAscending checkPackings checkRows loss losses figureOf readTerms checkFigure readPlacement checkPlacement placementFile sevenPlacement headNumbers
+pub placements : (length (placementFile 2 5) ≡ 38)
+    × (checkPlacement (placementFile 2 5) ≡ accepted (sevenPlacement 2))
+    × (placementOutcome (placementChecked (readPlacement (placementFile 2 5)))
+    ≡ result (2 ∷ 7 ∷ 3 ∷ 2 ∷ 3 ∷ 9 ∷ 5 ∷ 11 ∷ 1 ∷ 2 ∷ 1 ∷ 7 ∷ 0 ∷ 0 ∷ 0 ∷ 0 ∷ 0 ∷ 0 ∷ []))
+    × (placementOutcome (placementChecked (readPlacement (placementFile 2 4))) ≡ refusal 8 6)
+unfolding count every any firstWhere total flatten choose floorsDown readGroups readNumber readWithin ascending rowsAt member holds together subsets crowded firstCrowded firstBad readKind readLayers layersAt firstCrowdedOf readBase checkLength checkEnd checkAscending checkPackings checkRows lostBy loss losses figureOf readTerms checkFigure readPlacement checkPlacement placementFile sevenPlacement headNumbers
 placements = (refl, refl, refl, refl)
 
--- and their first row stands at byte 11
-pub placement-located : readPlacement (placementFile 5) ≡ accepted (record { content = sevenPlacement; first = 11 })
-unfolding count every any firstWhere total flatten choose readGroups readNumber readWithin ascending rowsAt member holds together subsets crowded firstCrowded firstBad readKind readLayers layersAt firstCrowdedOf readBase checkLength checkEnd checkAscending checkPackings checkRows loss losses figureOf readTerms checkFigure readPlacement placementFile sevenPlacement
+-- Request (d): "document 01's 38 bytes then begin with 3"; any first number but 2 and 3 is refused
+pub placements-of-kind-3 : (checkPlacement (placementFile 3 5) ≡ accepted (sevenPlacement 3))
+    × (placementOutcome (placementChecked (readPlacement (placementFile 3 5)))
+    ≡ result (3 ∷ 7 ∷ 3 ∷ 2 ∷ 3 ∷ 9 ∷ 5 ∷ 11 ∷ 1 ∷ 2 ∷ 1 ∷ 7 ∷ 0 ∷ 0 ∷ 0 ∷ 0 ∷ 0 ∷ 0 ∷ []))
+    × (placementOutcome (placementChecked (readPlacement (placementFile 3 4))) ≡ refusal 8 6)
+    × (placementOutcome (placementChecked (readPlacement (placementFile 1 5))) ≡ refusal 3 0)
+    × (placementOutcome (placementChecked (readPlacement (placementFile 4 5))) ≡ refusal 3 0)
+unfolding count every any firstWhere total flatten choose floorsDown readGroups readNumber readWithin ascending rowsAt member holds together subsets crowded firstCrowded firstBad readKind readLayers layersAt firstCrowdedOf readBase checkLength checkEnd checkAscending checkPackings checkRows lostBy loss losses figureOf readTerms checkFigure readPlacement checkPlacement placementFile sevenPlacement headNumbers
+placements-of-kind-3 = (refl, refl, refl, refl, refl)
+
+-- their first row stands at byte 11
+pub placement-located : readPlacement (placementFile 3 5) ≡ accepted (record { content = sevenPlacement 3; first = 11 })
+unfolding count every any firstWhere total flatten choose floorsDown readGroups readNumber readWithin ascending rowsAt member holds together subsets crowded firstCrowded firstBad readKind readLayers layersAt firstCrowdedOf readBase checkLength checkEnd checkAscending checkPackings checkRows lostBy loss losses figureOf readTerms checkFigure readPlacement placementFile sevenPlacement
 placement-located = refl
+
+-- Request (d): "Document 01's pack with s 3, k 4, b 7 then has figure 6 where it had 5", the same rows as kinds 3 and 2
+pub same-rows : (placementOutcome (placementChecked (readPlacement (sevenRecords 2 5)))
+    ≡ result (2 ∷ 7 ∷ 3 ∷ 3 ∷ 4 ∷ 7 ∷ 5 ∷ 13 ∷ 0 ∷ 0 ∷ 1 ∷ 7 ∷ 0 ∷ 0 ∷ 0 ∷ 0 ∷ 0 ∷ 0 ∷ []))
+    × (placementOutcome (placementChecked (readPlacement (sevenRecords 3 6)))
+    ≡ result (3 ∷ 7 ∷ 3 ∷ 3 ∷ 4 ∷ 7 ∷ 6 ∷ 13 ∷ 0 ∷ 0 ∷ 1 ∷ 7 ∷ 0 ∷ 0 ∷ 0 ∷ 0 ∷ 0 ∷ 0 ∷ []))
+    × (placementOutcome (placementChecked (readPlacement (sevenRecords 2 6))) ≡ refusal 8 6)
+    × (placementOutcome (placementChecked (readPlacement (sevenRecords 3 5))) ≡ refusal 8 6)
+unfolding count every any firstWhere total flatten choose floorsDown readGroups readNumber readWithin ascending rowsAt member holds together subsets crowded firstCrowded firstBad readKind readLayers layersAt firstCrowdedOf readBase checkLength checkEnd checkAscending checkPackings checkRows lostBy loss losses figureOf readTerms checkFigure readPlacement sevenRecords headNumbers
+same-rows = (refl, refl, refl, refl)
 
 -- s 3, k 5: the losses 5/3 and 10/3 are 1 and 3, though their sum is 5. s 2, k 3: of 2 rows with lambda 3, which 9/2
 -- would lose, 2 are lost.
-pub figures : (figureOf 3 5 20 (record { bound = 1; size = 9 } ∷ record { bound = 1; size = 9 } ∷ record { bound = 0; size = 2 } ∷ []) ≡ 16)
-    × (figureOf 2 3 9 (record { bound = 3; size = 2 } ∷ record { bound = 1; size = 7 } ∷ []) ≡ 4)
-unfolding choose loss losses figureOf
+pub figures : (figureOf OneFloor 3 5 20 (record { bound = 1; size = 9 } ∷ record { bound = 1; size = 9 } ∷ record { bound = 0; size = 2 } ∷ []) ≡ 16)
+    × (figureOf OneFloor 2 3 9 (record { bound = 3; size = 2 } ∷ record { bound = 1; size = 7 } ∷ []) ≡ 4)
+unfolding choose lostBy loss losses figureOf
 figures = (refl, refl)
+
+-- Seven rows of P's layer 1, s 3, k 4: 1 × 3 / 2 is 1 and 1 × 4 / 3 is 1, where 6/3 is 2: "figure 6 where it had 5"; of the
+-- floors from i = 0 up, 4/3 and 3/2, so too. Lambda 3, s 2, k 3: 3 × 2 / 1 is 6, 6 × 3 / 2 is 9, which are more than 8; from
+-- i = 0 up 9/2 is 4 and 4 × 2 is 8. Lambda 1, s 4, k 7, layer 2: 5/2 is 2, 2 × 6 / 3 is 4, 4 × 7 / 4 is 7, where 35/4 is 8.
+pub nested-figures : (figureOf OneFloor 3 4 7 (record { bound = 0; size = 0 } ∷ record { bound = 1; size = 7 } ∷ record { bound = 0; size = 0 } ∷ []) ≡ 5)
+    × (figureOf NestedFloors 3 4 7 (record { bound = 0; size = 0 } ∷ record { bound = 1; size = 7 } ∷ record { bound = 0; size = 0 } ∷ []) ≡ 6)
+    × (figureOf NestedFloors 2 3 20 (record { bound = 0; size = 0 } ∷ record { bound = 3; size = 20 } ∷ []) ≡ 11)
+    × (figureOf NestedFloors 2 3 9 (record { bound = 3; size = 2 } ∷ record { bound = 1; size = 7 } ∷ []) ≡ 4)
+    × (lostBy NestedFloors 4 7 2 1 ≡ 7)
+    × (lostBy OneFloor 4 7 2 1 ≡ 8)
+unfolding choose floorsDown lostBy loss losses figureOf
+nested-figures = (refl, refl, refl, refl, refl, refl)

@@ -2,6 +2,7 @@
 use Prim.Native.Nat.{ℕ, _+_, _*_, _≤_, _<_}
 use native.Mathlib.Omega.{arith}
 use mathlib.Core.Path.{_≡_, refl, sym, _∙_, ap}
+use mathlib.Core.Logic.{⊎-elim}
 use mathlib.Core.List.{List, [], _++_, flatten, append-nil}
 use lib.ListN.{length, length-append}
 use lib.Dec.{T, ltb, ltb→lt}
@@ -13,6 +14,7 @@ use Rattle.number.proofs.Laws.{numberBytes-length-one, numberBytes-length-le-tw
 use Rattle.number.proofs.Forms.{forms-of, forms-bytes}
 use Rattle.packing.specs.Rows.{Row, ascending}
 use Rattle.layers.specs.Layers.{allRows}
+use Rattle.layers.proofs.KindMeaning.{placement-kinds}
 use Rattle.layers.proofs.Lengths.{length-allRows, length-headNumbers, headNumbers-most}
 use Rattle.placement.specs.Figure.{figureOf}
 use Rattle.placement.specs.Placement.{Placement, GoodPlacement, placementNumbers, PlacementFile, placementBytes}
@@ -35,13 +37,16 @@ module _ (p : Placement) (good : GoodPlacement p) where
   bounds-most : All (λ layer. layer .bound ≤ largestNumber) (p .layers)
   bounds-most = all-imp (λ layer. layer .bound ≤ 16_777_216) _ (λ layer h. omega arith) (p .layers) (good .limits .lambda-most)
 
+  kind-small : p .kind < 128
+  kind-small = ⊎-elim (λ two. omega arith) (λ three. omega arith) (placement-kinds (p .kind) (good .limits .kind))
+
   numbers-most : All (λ v. v ≤ largestNumber) (placementNumbers p)
   numbers-most =
       let l = good .limits in
       let b = l .base in
       let o = l .order in
       let f = figure-le in (
-        omega arith,
+        omega (arith, kind-small),
         (
           omega arith,
           (omega arith, (omega arith, (omega arith, (omega arith, (omega arith, headNumbers-most (p .layers) bounds-most (omega arith)))))),
@@ -81,7 +86,7 @@ module _ (p : Placement) (good : GoodPlacement p) where
       simp length-append
       (omega (
         arith,
-        numberBytes-length-one 2 (omega arith),
+        numberBytes-length-one (p .kind) kind-small,
         numberBytes-length-le-two (p .n) (omega arith),
         numberBytes-length-le-two (p .r) (omega arith),
         numberBytes-length-le-two (p .s) (omega arith),

@@ -24,6 +24,7 @@ abbrev pub placementHead : Located Placement → PlacementHead
 placementHead file =
     let p = file .content in
     record {
+      kind = p .kind;
       n = p .n;
       r = p .r;
       s = p .s;
@@ -38,10 +39,10 @@ placementChecked (accepted file) =
     record { answer = Accepted (placementHead file); layers = fiveHeads (headsOf (file .content .layers)) }
 placementChecked (refused e) = record { answer = Refused e; layers = fiveHeads [] }
 
--- an accepted placement's values: n, r, s, k, b, F, the place of its first row, and lambda and c of each of five layers, 0
+-- an accepted placement's values: its kind, n, r, s, k, b, F, the place of its first row, and lambda and c of each of five layers, 0
 -- and 0 from s on
 abbrev pub headValues : PlacementHead → List LayerHead → List ℕ
-headValues h layers = h .n ∷ h .r ∷ h .s ∷ h .k ∷ h .b ∷ h .figure ∷ h .first ∷ headNumbers layers
+headValues h layers = h .kind ∷ h .n ∷ h .r ∷ h .s ∷ h .k ∷ h .b ∷ h .figure ∷ h .first ∷ headNumbers layers
 
 abbrev pub placementValues : Located Placement → List ℕ
 placementValues file = headValues (placementHead file) (fiveHeads (headsOf (file .content .layers)))

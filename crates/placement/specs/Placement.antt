@@ -4,23 +4,26 @@ use mathlib.Core.Path.{_≡_}
 use mathlib.Core.Bool.{true}
 use mathlib.Core.List.{List, [], _∷_, _++_, flatten}
 use lib.ListN.{length}
-use lib.Dec.{eqb}
+use lib.Dec.{T, eqb}
 use Rattle.lists.specs.Lists.{All}
 use Rattle.refusal.specs.declared.Refusal.the-variants.{WrongFigure}
 use Rattle.refusal.specs.Checked.{Checked, accepted, _>>=_, require, mapAccepted}
 use Rattle.number.specs.Numbers.{formsOf, readWithin}
 use Rattle.packing.specs.Rows.{Row}
-use Rattle.layers.specs.Layers.{Layer, allRows, Packings, headsOf, headNumbers, sizes, File, Located, BaseLimits, readBase, readLayers, checkRows}
+use Rattle.layers.specs.Layers.{Layer, allRows, Packings, headsOf, headNumbers, sizes, File, Located, BaseLimits, isKind, readBase, readLayers, checkRows}
+use Rattle.layers.specs.declared.FileKind.the-variants.{Placement as PlacementKind}
 use Rattle.layers.specs.declared.Base.{Base}
 use Rattle.layers.specs.declared.LayerHead.{LayerHead}
 use Rattle.layers.specs.declared.LayerLimits.{LayerLimits}
-use Rattle.placement.specs.Figure.{figureOf}
+use Rattle.placement.specs.Figure.{ruleOf, figureOf}
+use Rattle.placement.specs.declared.Rule.{Rule}
 use Rattle.placement.specs.declared.Order.{Order}
 use Rattle.placement.specs.declared.Terms.{Terms}
 
--- n nodes, r replicas, the threshold s, k failures, b records, the figure F, and for each x from 0 to s-1 a layer of
+-- the file's kind, n nodes, r replicas, the threshold s, k failures, b records, the figure F, and for each x from 0 to s-1 a layer of
 -- rows with its lambda
 pub record Placement : Type 0 where
+  pub kind : ℕ
   pub n : ℕ
   pub r : ℕ
   pub s : ℕ
@@ -29,10 +32,11 @@ pub record Placement : Type 0 where
   pub figure : ℕ
   pub layers : List Layer
 
--- "The number 2; n; r; s; k; b; the figure F (0..b); for each x from 0 to s-1 the numbers lambda .. and c"
+-- "The number 2; n; r; s; k; b; the figure F (0..b); for each x from 0 to s-1 the numbers lambda .. and c"; the number 3 in a
+-- placement of kind 3
 abbrev pub placementNumbers : Placement → List ℕ
 placementNumbers p =
-    2 ∷ p .n ∷ p .r ∷ p .s ∷ p .k ∷ p .b ∷ p .figure ∷ headNumbers (headsOf (p .layers))
+    p .kind ∷ p .n ∷ p .r ∷ p .s ∷ p .k ∷ p .b ∷ p .figure ∷ headNumbers (headsOf (p .layers))
 
 -- "then b rows, layer by layer; then the end"
 abbrev pub PlacementFile : Placement → List ℕ → Type 0
@@ -50,6 +54,7 @@ pub record OrderLimits (n r : ℕ) (order : Order) : Type 0 where
 -- "Limits: n 2..255; r 2..5 and at most n; s 1..r; k s..n-1; b 1..4,096"; "lambda (0..16,777,216) and c (0 up to b less
 -- the c's before; the last must equal what is left)"
 pub record PlacementLimits (p : Placement) : Type 0 where
+  pub kind : T (isKind PlacementKind (p .kind))
   pub base : BaseLimits (p .n) (p .r)
   pub order : OrderLimits (p .n) (p .r) (record { s = p .s; k = p .k; b = p .b })
   pub layer-each : length (p .layers) ≡ p .s
@@ -57,12 +62,12 @@ pub record PlacementLimits (p : Placement) : Type 0 where
   pub records-all : sizes (headsOf (p .layers)) ≡ p .b
 
 -- Demand 2: what an accepted placement is. "In layer x every set of x+1 nodes stands in at most lambda of its c rows."
--- "F must equal b less the losses of all layers."
+-- "F must equal b less the losses of all layers", by the rule of the file's kind.
 pub record GoodPlacement (p : Placement) : Type 0 where
   pub limits : PlacementLimits p
   pub rows : All (Row (p .n) (p .r)) (allRows (p .layers))
   pub packings : Packings 0 (p .layers)
-  pub formula : p .figure ≡ figureOf (p .s) (p .k) (p .b) (headsOf (p .layers))
+  pub formula : p .figure ≡ figureOf (ruleOf (p .kind)) (p .s) (p .k) (p .b) (headsOf (p .layers))
 
 abbrev pub placementLayerLimits : LayerLimits
 placementLayerLimits = record { lo = 0; hi = 16_777_216; full = true }
@@ -86,14 +91,15 @@ readTerms base bytes at = do
       })
 
 -- refusal 8: "F differs from the formula", at "F's start"
-unfoldable pub checkFigure : Terms → List LayerHead → Checked Unit
-checkFigure terms heads =
-    require (eqb (terms .figure) (figureOf (terms .s) (terms .k) (terms .b) heads)) (WrongFigure (terms .place))
+unfoldable pub checkFigure : Rule → Terms → List LayerHead → Checked Unit
+checkFigure rule terms heads =
+    require (eqb (terms .figure) (figureOf rule (terms .s) (terms .k) (terms .b) heads)) (WrongFigure (terms .place))
 
 -- what the numbers and the layers say
-abbrev pub placementOf : Base → Terms → List Layer → Placement
-placementOf base terms layers =
+abbrev pub placementOf : (kind : ℕ) → Base → Terms → List Layer → Placement
+placementOf kind base terms layers =
     record {
+      kind = kind;
       n = base .n;
       r = base .r;
       s = terms .s;
@@ -107,12 +113,12 @@ placementOf base terms layers =
 -- refusal
 unfoldable pub readPlacement : List ℕ → Checked (Located Placement)
 readPlacement bytes = do
-  head ← readBase 2 bytes
+  head ← readBase PlacementKind bytes
   order ← readTerms (head .base) bytes (head .next)
   numbers ← readLayers placementLayerLimits (order .terms .s) (order .terms .b) bytes (order .next)
   layers ← checkRows (head .base) (numbers .heads) bytes (numbers .next)
-  _ ← checkFigure (order .terms) (headsOf layers)
-  accepted (record { content = placementOf (head .base) (order .terms) layers; first = numbers .next })
+  _ ← checkFigure (ruleOf (head .kind)) (order .terms) (headsOf layers)
+  accepted (record { content = placementOf (head .kind) (head .base) (order .terms) layers; first = numbers .next })
 
 -- the placement, or the refusal
 unfoldable pub checkPlacement : List ℕ → Checked Placement

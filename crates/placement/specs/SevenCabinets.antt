@@ -4,15 +4,21 @@ use mathlib.Core.List.{List, [], _∷_, _++_, flatten}
 use Rattle.packing.specs.SevenCabinets.{rows0, rows1, row245}
 use Rattle.placement.specs.Placement.{Placement}
 
--- "the whole file 2 7 3 2 3 9 5, 1 2, 1 7, and P's nine rows in P's order", with another figure where one is given
-unfoldable pub placementFile : (figure : ℕ) → List ℕ
-placementFile figure =
-    (2 ∷ 7 ∷ 3 ∷ 2 ∷ 3 ∷ 9 ∷ figure ∷ 1 ∷ 2 ∷ 1 ∷ 7 ∷ []) ++ flatten rows0 ++ flatten (rows1 row245)
+-- "the whole file 2 7 3 2 3 9 5, 1 2, 1 7, and P's nine rows in P's order", with another kind and figure where they are given
+unfoldable pub placementFile : (kind figure : ℕ) → List ℕ
+placementFile kind figure =
+    (kind ∷ 7 ∷ 3 ∷ 2 ∷ 3 ∷ 9 ∷ figure ∷ 1 ∷ 2 ∷ 1 ∷ 7 ∷ []) ++ flatten rows0 ++ flatten (rows1 row245)
+
+-- seven records on P's layer 1, with s 3 and k 4
+unfoldable pub sevenRecords : (kind figure : ℕ) → List ℕ
+sevenRecords kind figure =
+    (kind ∷ 7 ∷ 3 ∷ 3 ∷ 4 ∷ 7 ∷ figure ∷ 0 ∷ 0 ∷ 1 ∷ 7 ∷ 0 ∷ 0 ∷ []) ++ flatten (rows1 row245)
 
 -- what the file says
-unfoldable pub sevenPlacement : Placement
-sevenPlacement =
+unfoldable pub sevenPlacement : (kind : ℕ) → Placement
+sevenPlacement kind =
     record {
+      kind = kind;
       n = 7;
       r = 3;
       s = 2;

@@ -3,7 +3,7 @@
 use Prim.Native.Nat.{ℕ}
 use mathlib.Core.List.{List}
 use Rattle.layers.specs.Layers.{allRows, headsOf}
-use Rattle.placement.specs.Figure.{figureOf}
+use Rattle.placement.specs.Figure.{ruleOf, figureOf}
 use Rattle.placement.specs.Placement.{Placement}
 
 -- how many units can fail: the nodes
@@ -14,6 +14,7 @@ units p = p .n
 abbrev pub unitRows : Placement → List (List ℕ)
 unitRows p = allRows (p .layers)
 
--- Document 02, (c): "the figure for each k' .., by the same formula with its own lambdas and counts"
+-- Document 02, (c): "the figure for each k' .., by the same formula with its own lambdas and counts"; (d): "The curve follows
+-- the file's kind"
 unfoldable pub figureAt : Placement → (k : ℕ) → ℕ
-figureAt p k = figureOf (p .s) k (p .b) (headsOf (p .layers))
+figureAt p k = figureOf (ruleOf (p .kind)) (p .s) k (p .b) (headsOf (p .layers))

@@ -3,6 +3,12 @@ use layers::LayerHead;
 use refusal::Refusal;
 use refusal::Verdict;
 
+// The rule of a layer's loss: one floor of document 01, or the nested floors of request (d).
+pub enum Rule {
+    OneFloor,
+    NestedFloors,
+}
+
 // The threshold s, the number of failures k and the number of records b: what a figure is taken for, and what is planned.
 pub struct Order {
     pub s: usize,
@@ -28,6 +34,7 @@ pub struct TermsRead {
 
 // An accepted placement's numbers, and the place of its first row.
 pub struct PlacementHead {
+    pub kind: usize,
     pub n: usize,
     pub r: usize,
     pub s: usize,

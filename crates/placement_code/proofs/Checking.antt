@@ -12,13 +12,14 @@ use Rattle.refusal.specs.declared.Refusal.{Refusal}
 use Rattle.refusal.specs.declared.Refusal.the-variants.{WrongFigure}
 use Rattle.refusal.specs.Checked.{accepted, refused}
 use Rattle.layers.specs.Layers.{Layer, BaseReading, BaseLimits, sizes, headsOf, readBase, readLayers, checkRows}
+use Rattle.layers.specs.declared.FileKind.the-variants.{Placement as PlacementKind}
 use Rattle.layers.specs.declared.LayerHead.{LayerHead}
 use Rattle.layers.specs.declared.LayersRead.{LayersRead}
 use Rattle.layers.proofs.NumbersRead.{reads-le-length}
 use Rattle.layers.proofs.Heads.{fit-le, reads-of-readBase, readBase-inside}
 use Rattle.layers.proofs.RowsChecked.{taken-of-checkRows, taken-heads}
 use Rattle.layers.proofs.Answered.{LayersGood}
-use Rattle.placement.specs.Figure.{figureOf}
+use Rattle.placement.specs.Figure.{ruleOf, figureOf}
 use Rattle.placement.specs.Placement.{OrderLimits, TermsReading, placementLayerLimits, placementOf, readTerms, checkFigure, readPlacement}
 use Rattle.placement.specs.Answers.{placementChecked, placementHead}
 use Rattle.placement.specs.declared.PlacementCheck.{PlacementCheck}
@@ -26,21 +27,21 @@ use Rattle.placement.specs.declared.PlacementAnswer.the-variants.{Accepted}
 use Rattle.placement.proofs.Accepted.{termNumbers, orderOf, reads-of-readTerms}
 
 -- what is known of n, r, s, k and b that were read
-pub order-limits : (s : List ℕ) {head : BaseReading} {order : TermsReading} → readBase 2 s ≡ accepted head
+pub order-limits : (s : List ℕ) {head : BaseReading} {order : TermsReading} → readBase PlacementKind s ≡ accepted head
     → readTerms (head .base) s (head .next) ≡ accepted order
     → BaseLimits (head .base .n) (head .base .r) × OrderLimits (head .base .n) (head .base .r) (orderOf (order .terms))
     × (order .next ≤ length s)
 order-limits s {head} {order} b o =
-    let base = reads-of-readBase 2 s b .1 in
+    let base = reads-of-readBase PlacementKind s b .1 in
     let (reads, limits) = reads-of-readTerms (head .base) s (head .next) o (base .n-least) in
-    (base, limits, reads-le-length (termNumbers (order .terms)) s (head .next) (order .next) (readBase-inside 2 s b) reads)
+    (base, limits, reads-le-length (termNumbers (order .terms)) s (head .next) (order .next) (readBase-inside PlacementKind s b) reads)
 
 module _ (s : List ℕ) where
-  pub placement-no-base : {e : Refusal} → readBase 2 s ≡ refused e → placementChecked (refused e) ≡ placementChecked (readPlacement s)
+  pub placement-no-base : {e : Refusal} → readBase PlacementKind s ≡ refused e → placementChecked (refused e) ≡ placementChecked (readPlacement s)
   unfolding readPlacement
   placement-no-base h = rw h
 
-  module _ {head : BaseReading} (b : readBase 2 s ≡ accepted head) where
+  module _ {head : BaseReading} (b : readBase PlacementKind s ≡ accepted head) where
     pub no-terms : {e : Refusal} → readTerms (head .base) s (head .next) ≡ refused e
         → placementChecked (refused e) ≡ placementChecked (readPlacement s)
     unfolding readPlacement
@@ -70,13 +71,13 @@ module _ (s : List ℕ) where
             ((limits .s-most, base .r-most, l .inside inside), omega (arith, sum-le, limits .b-most))
 
         -- what the figure asks
-        pub figure-asked : ((order .terms .s ≤ 5) × (order .terms .k ≤ 255)
+        pub figure-asked : ((order .terms .s ≤ 5) × (order .terms .s ≤ order .terms .k) × (order .terms .k ≤ 255)
             × (sizes (take (order .terms .s) (numbers .heads)) ≤ order .terms .b))
             × All (λ head. head .bound ≤ 16_777_216) (take (order .terms .s) (numbers .heads))
         unfolding heads
         figure-asked =
             let (base, limits, inside) = order-limits s b o in (
-              (omega (arith, limits .s-most, base .r-most), omega (arith, limits .k-most, base .n-most), sum-le),
+              (omega (arith, limits .s-most, base .r-most), limits .k-least, omega (arith, limits .k-most, base .n-most), sum-le),
               all-imp _ (λ head. head .bound ≤ 16_777_216) (λ head h. h .1) heads (l .within .bounds),
             )
 
@@ -87,13 +88,13 @@ module _ (s : List ℕ) where
 
         module _ {layers : List Layer}
             (r : checkRows (head .base) (take (order .terms .s) (numbers .heads)) s (numbers .next) ≡ accepted layers) {figure : ℕ}
-            (is : figure ≡ figureOf (order .terms .s) (order .terms .k) (order .terms .b) (take (order .terms .s) (numbers .heads))) where
+            (is : figure ≡ figureOf (ruleOf (head .kind)) (order .terms .s) (order .terms .k) (order .terms .b) (take (order .terms .s) (numbers .heads))) where
           same-heads : headsOf layers ≡ heads
           unfolding heads
           same-heads = taken-heads (head .base) heads s (numbers .next) (taken-of-checkRows (head .base) heads s (numbers .next) r)
 
           -- the code's figure is that of the file's layers
-          formula : figure ≡ figureOf (order .terms .s) (order .terms .k) (order .terms .b) (headsOf layers)
+          formula : figure ≡ figureOf (ruleOf (head .kind)) (order .terms .s) (order .terms .k) (order .terms .b) (headsOf layers)
           unfolding heads
           formula = is ∙ rw same-heads refl
 
@@ -105,7 +106,7 @@ module _ (s : List ℕ) where
           pub right-figure : order .terms .figure ≡ figure
               → _≡_ {A = PlacementCheck}
               (record {
-                answer = Accepted (placementHead (record { content = placementOf (head .base) (order .terms) layers; first = numbers .next }));
+                answer = Accepted (placementHead (record { content = placementOf (head .kind) (head .base) (order .terms) layers; first = numbers .next }));
                 layers = numbers .heads;
               })
               (placementChecked (readPlacement s))

@@ -1,6 +1,7 @@
 // Checking placements.
 mod terms;
 
+use layers::FileKind;
 use layers::LayerHead;
 use layers::LayerLimits;
 use placement::Order;
@@ -24,7 +25,7 @@ fn refuse(e: Refusal) -> PlacementCheck
     }
 }
 
-// Checks a placement: n and r, then s, k, b and F, the layers' numbers, the rows, and the figure.
+// Checks a placement: its kind, n and r, then s, k, b and F, the layers' numbers, the rows, and the figure by the kind's rule.
 //
 // Accepted exactly where the bytes are the file of a placement with document 01's limits, rows in order, the packing of every
 // layer and the formula's figure: `placement-accepted-iff` in `placement`. The figure of an accepted placement holds
@@ -32,11 +33,12 @@ fn refuse(e: Refusal) -> PlacementCheck
 pub fn check_placement(bytes: &[u8]) -> PlacementCheck
     ensures { λ check. ⌜ check ≡ placementChecked (readPlacement (now (bytes .entry))) ⌝ }
 {
-    let head = layers_reader::read_base(bytes, 2);
+    let head = layers_reader::read_base(bytes, FileKind::Placement);
     let head_verdict = head.verdict;
     if let Verdict::Refused(e) = head_verdict {
         return refuse(e);
     }
+    let kind = head.kind;
     let base = head.base;
     let read = terms::read_terms(bytes, base, head.next);
     let read_verdict = read.verdict;
@@ -63,11 +65,13 @@ pub fn check_placement(bytes: &[u8]) -> PlacementCheck
         return refuse(e);
     }
     let order = Order { s, k: t.k, b };
-    if t.figure != placement_figure::figure_of(order, layers) {
+    let rule = placement_figure::rule_of(kind);
+    if t.figure != placement_figure::figure_of(rule, order, layers) {
         return refuse(Refusal::WrongFigure(t.place));
     }
     PlacementCheck {
         answer: PlacementAnswer::Accepted(PlacementHead {
+            kind,
             n: base.n,
             r: base.r,
             s,

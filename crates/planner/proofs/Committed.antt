@@ -22,6 +22,7 @@ use Rattle.layers.specs.declared.LayerHead.{LayerHead}
 use Rattle.layers.proofs.Arrays.{take-five, sizes-take-le}
 use Rattle.pack.specs.Pack.{Pack}
 use Rattle.placement.specs.Figure.{figureOf}
+use Rattle.placement.specs.declared.Rule.the-variants.{NestedFloors}
 use Rattle.placement.specs.Placement.{Placement, GoodPlacement, placementNumbers, placementBytes}
 use Rattle.placement.specs.declared.Order.{Order}
 use Rattle.placement.proofs.Written.{written-file, written-length}
@@ -94,12 +95,13 @@ module _ {base : Base} {layers : List LayerHead} {blocks : List ℕ} {order : Or
       rw are (take-five noHead (splitHeads layers (order .s) (split w)) (order .s) (length-splitHeads layers (order .s) (split w)) (s-le-five w))
 
   -- what the figure asks
-  pub figure-limits : ((order .s ≤ 5) × (order .k ≤ 255) × (sizes (take (order .s) heads) ≤ order .b))
+  pub figure-limits : ((order .s ≤ 5) × (order .s ≤ order .k) × (order .k ≤ 255) × (sizes (take (order .s) heads) ≤ order .b))
       × All (λ head. head .bound ≤ 16_777_216) (take (order .s) heads)
   figure-limits =
       rw heads-taken (
         (
           s-le-five w,
+          w .within .k-least,
           omega (arith, w .within .k-most, w .held .good .limits .base .n-most),
           omega (arith, w .is-split .sum),
         ),
@@ -112,7 +114,7 @@ pub record HeadMade (base : Base) (layers : List LayerHead) (blocks : List ℕ) 
   pub writable : Writable base layers blocks order counts
   pub room : outputNeeded (order .b) (base .r) ≤ length out₀
   pub heads-are : heads ≡ fiveHeads (splitHeads layers (order .s) (countsSplit layers counts))
-  pub figure-is : figure ≡ figureOf (order .s) (order .k) (order .b) (take (order .s) heads)
+  pub figure-is : figure ≡ figureOf NestedFloors (order .s) (order .k) (order .b) (take (order .s) heads)
 
 module _ {base : Base} {layers : List LayerHead} {blocks : List ℕ} {order : Order} {counts : List ℕ} {heads : List LayerHead} {figure : ℕ}
     {out₀ : List ℕ} (made : HeadMade base layers blocks order counts heads figure out₀) where
@@ -132,7 +134,7 @@ module _ {base : Base} {layers : List LayerHead} {blocks : List ℕ} {order : Or
   made-figure : placement w .figure ≡ figure
   unfolding splitPlacement
   made-figure =
-      ap (figureOf (order .s) (order .k) (order .b)) (heads-agree w ∙ sym taken) ∙ sym (made .figure-is)
+      ap (figureOf NestedFloors (order .s) (order .k) (order .b)) (heads-agree w ∙ sym taken) ∙ sym (made .figure-is)
 
   numbers-are : placementNumbers (placement w) ≡ numbers
   unfolding splitPlacement

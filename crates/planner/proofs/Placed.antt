@@ -13,6 +13,7 @@ use Rattle.packing.proofs.Copies.{copies-packing, repeated-rows, length-repeate
 use Rattle.layers.specs.Layers.{Layer, allRows, headOf, headsOf, Packings}
 use Rattle.pack.specs.Pack.{Pack, GoodPack}
 use Rattle.placement.specs.Figure.{figureOf}
+use Rattle.placement.specs.declared.Rule.the-variants.{NestedFloors}
 use Rattle.placement.specs.Placement.{OrderLimits, PlacementLimits, GoodPlacement}
 use Rattle.split.specs.Splits.{Share, layerAt, shareHead, splitHeads, Split}
 use Rattle.split.proofs.Heads.{splitHeads-congr}
@@ -70,6 +71,7 @@ module _ (pack : Pack) (s k b : ℕ) (split : ℕ → Share) where
     unfolding splitPlacement
     placed-limits =
         record {
+          kind = tt;
           base = good .limits .base;
           order = order;
           layer-each = length-map-upTo placedAt s;
@@ -106,13 +108,13 @@ module _ (pack : Pack) (s k b : ℕ) (split : ℕ → Share) where
     pub placed-good : GoodPlacement (splitPlacement pack s k b split)
     unfolding splitPlacement
     placed-good =
-        record { limits = placed-limits; rows = placed-rows; packings = placed-packings; formula = ap (figureOf s k b) (sym heads-placed) }
+        record { limits = placed-limits; rows = placed-rows; packings = placed-packings; formula = ap (figureOf NestedFloors s k b) (sym heads-placed) }
 
 -- a placement looks at the split's layers below s alone
 pub splitPlacement-congr : (pack : Pack) (s k b : ℕ) (a c : ℕ → Share) → ((x : ℕ) → x < s → a x ≡ c x)
     → splitPlacement pack s k b a ≡ splitPlacement pack s k b c
 unfolding splitPlacement
 splitPlacement-congr pack s k b a c h =
-    let figure = ap (figureOf s k b) (splitHeads-congr (headsOf (pack .layers)) s a c h) in
+    let figure = ap (figureOf NestedFloors s k b) (splitHeads-congr (headsOf (pack .layers)) s a c h) in
     let layers = map-upTo-congr _ _ s (λ x l. ap (placed (blocksAt (pack .layers) x)) (h x l)) in
-    λ i. record { n = pack .n; r = pack .r; s = s; k = k; b = b; figure = figure i; layers = layers i }
+    λ i. record { kind = 3; n = pack .n; r = pack .r; s = s; k = k; b = b; figure = figure i; layers = layers i }

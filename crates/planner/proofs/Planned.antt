@@ -20,6 +20,7 @@ use Rattle.placement.specs.declared.Order.{Order}
 use Rattle.placement.proofs.Written.{written-file, written-bytes, written-length}
 use Rattle.placement.proofs.Accepted.{placement-accepted-iff}
 use Rattle.placement.proofs.Survivors.{survivors}
+use Rattle.placement.specs.declared.Rule.the-variants.{NestedFloors}
 use Rattle.split.specs.Splits.{Share, layerAt, hasBlock, namedSplit}
 use Rattle.split.proofs.Named.{namedSplit-is-split}
 use Rattle.split.proofs.Bounds.{named-lambda-le}
@@ -82,7 +83,7 @@ module _ (bytes : List ℕ) (pack : Pack) (is-pack : checkPack bytes ≡ accepte
     (within : OrderLimits (pack .n) (pack .r) order) (block : T (hasBlock (headsOf (pack .layers)) (order .s))) where
   -- the named split, and its placement
   abbrev split : ℕ → Share
-  split = namedSplit (headsOf (pack .layers)) (order .s) (order .k) (order .b)
+  split = namedSplit NestedFloors (headsOf (pack .layers)) (order .s) (order .k) (order .b)
 
   abbrev placement : Placement
   placement = namedPlacement pack (order .s) (order .k) (order .b)
@@ -99,7 +100,7 @@ module _ (bytes : List ℕ) (pack : Pack) (is-pack : checkPack bytes ≡ accepte
 
   named-lambdas : (x : ℕ) → x < order .s → split x .copies * layerAt (headsOf (pack .layers)) x .bound ≤ 16_777_216
   named-lambdas x lt =
-      named-lambda-le (headsOf (pack .layers)) (order .s) (order .k) (order .b) (within .b-most) block x lt
+      named-lambda-le NestedFloors (headsOf (pack .layers)) (order .s) (order .k) (order .b) (within .b-most) block x lt
       (rw (layerAt-heads (pack .layers) x) (mu-most (pack .layers) x (good .limits .mu-limits)))
 
   -- what the planner writes is a good placement
@@ -107,7 +108,7 @@ module _ (bytes : List ℕ) (pack : Pack) (is-pack : checkPack bytes ≡ accepte
   unfolding namedPlacement
   plan-good =
       placed-good pack (order .s) (order .k) (order .b) split good within
-      (namedSplit-is-split (headsOf (pack .layers)) (order .s) (order .k) (order .b) (within .b-most) block) named-lambdas
+      (namedSplit-is-split NestedFloors (headsOf (pack .layers)) (order .s) (order .k) (order .b) (within .b-most) block) named-lambdas
 
   -- "and the checker accepts it"
   pub plan-accepted : checkPlacement (placementBytes placement) ≡ accepted placement

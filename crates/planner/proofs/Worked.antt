@@ -6,14 +6,14 @@ use Rattle.lists.specs.Lists.{count, every, any, firstWhere, total, upTo}
 use Rattle.refusal.specs.Refusals.{result}
 use Rattle.refusal.specs.Checked.{Checked, accepted, refused}
 use Rattle.refusal.specs.declared.Refusal.the-variants.{BadOrder, NoBlock, ShortWork, ShortOutput}
-use Rattle.binomial.specs.Choose.{choose}
+use Rattle.packing.specs.Floors.{floorsDown}
 use Rattle.number.specs.Numbers.{groups, numberBytes, readGroups, readNumber, readWithin}
 use Rattle.packing.specs.Rows.{ascending, rowsAt, member, holds, together, subsets, crowded, firstCrowded, firstBad, repeated}
 use Rattle.layers.specs.Layers.{headNumbers, readKind, readBase, readLayers, layersAt, firstCrowdedOf, checkLength, checkEnd, checkAscending, checkPackings, checkRows}
 use Rattle.pack.specs.Pack.{readPack, checkPack}
 use Rattle.packing.specs.SevenCabinets.{row245}
 use Rattle.pack.specs.SevenCabinets.{packBytes}
-use Rattle.placement.specs.Figure.{loss, losses, figureOf}
+use Rattle.placement.specs.Figure.{lostBy, loss, losses, figureOf}
 use Rattle.placement.specs.Placement.{Placement, placementBytes}
 use Rattle.placement.specs.SevenCabinets.{placementFile, sevenPlacement}
 use Rattle.split.specs.Splits.{lossOf, least, lastLeast, leastLoss, bestCount, namedCounts, namedSplit, hasBlock}
@@ -26,18 +26,24 @@ abbrev planOf : (pack : List ℕ) (s k b work output : ℕ) → Checked Placemen
 planOf pack s k b work output = plan pack (record { s = s; k = k; b = b }) work output
 
 -- "With P: s 2, k 2, b 7: F 6. s 2, k 3, b 7: F 4. s 2, k 3, b 9: F 5, counts 2 and 7. s 2, k 2, b 9: F 7, counts 0 and
--- 9. s 3, k 4, b 7: F 5. s 2, k 2, b 1: F 0": the length, F and the counts. "Order s = 2, k = 3, b = 9 gives the whole file
--- ..: 38 bytes."
+-- 9. s 3, k 4, b 7: F 5. s 2, k 2, b 1: F 0": the length, F and the counts, where request (d) has "figure 6 where it had 5". "Order
+-- s = 2, k = 3, b = 9 gives the whole file ..: 38 bytes", which "then begin with 3".
 pub orders : (planOutcome (planAnswer (planP 2 2 7)) ≡ result (32 ∷ 6 ∷ 0 ∷ 7 ∷ 0 ∷ 0 ∷ 0 ∷ []))
     × (planOutcome (planAnswer (planP 2 3 7)) ≡ result (32 ∷ 4 ∷ 0 ∷ 7 ∷ 0 ∷ 0 ∷ 0 ∷ []))
     × (planOutcome (planAnswer (planP 2 3 9)) ≡ result (38 ∷ 5 ∷ 2 ∷ 7 ∷ 0 ∷ 0 ∷ 0 ∷ []))
     × (planOutcome (planAnswer (planP 2 2 9)) ≡ result (38 ∷ 7 ∷ 0 ∷ 9 ∷ 0 ∷ 0 ∷ 0 ∷ []))
-    × (planOutcome (planAnswer (planP 3 4 7)) ≡ result (34 ∷ 5 ∷ 0 ∷ 7 ∷ 0 ∷ 0 ∷ 0 ∷ []))
+    × (planOutcome (planAnswer (planP 3 4 7)) ≡ result (34 ∷ 6 ∷ 0 ∷ 7 ∷ 0 ∷ 0 ∷ 0 ∷ []))
     × (planOutcome (planAnswer (planP 2 2 1)) ≡ result (14 ∷ 0 ∷ 0 ∷ 1 ∷ 0 ∷ 0 ∷ 0 ∷ []))
-    × (planP 2 3 9 ≡ accepted sevenPlacement)
-    × (placementBytes sevenPlacement ≡ placementFile 5)
-unfolding count every any firstWhere total upTo flatten choose groups numberBytes readGroups readNumber readWithin ascending rowsAt member holds together subsets crowded firstCrowded firstBad headNumbers readKind readBase readLayers layersAt firstCrowdedOf checkLength checkEnd checkAscending checkPackings checkRows readPack checkPack packBytes loss losses figureOf placementBytes placementFile sevenPlacement lossOf least lastLeast leastLoss bestCount namedCounts namedSplit repeated splitPlacement namedPlacement hasBlock checkOrder checkBlocks checkWork checkOutput planPack plan
+    × (planP 2 3 9 ≡ accepted (sevenPlacement 3))
+    × (placementBytes (sevenPlacement 3) ≡ placementFile 3 5)
+unfolding count every any firstWhere total upTo flatten floorsDown groups numberBytes readGroups readNumber readWithin ascending rowsAt member holds together subsets crowded firstCrowded firstBad headNumbers readKind readBase readLayers layersAt firstCrowdedOf checkLength checkEnd checkAscending checkPackings checkRows readPack checkPack packBytes lostBy loss losses figureOf placementBytes placementFile sevenPlacement lossOf least lastLeast leastLoss bestCount namedCounts namedSplit repeated splitPlacement namedPlacement hasBlock checkOrder checkBlocks checkWork checkOutput planPack plan
 orders = (refl, refl, refl, refl, refl, refl, refl, refl)
+
+-- Chosen by the nested floors: 3 records in layer 0, with lambda 2, and 7 in layer 1 lose 2 and 1, where all 10 in layer 1 lose 4.
+-- By the one floor both splits lose 4, and the second, with the largest c in layer 1, would be taken.
+pub chosen-by-nested-floors : planOutcome (planAnswer (planP 3 4 10)) ≡ result (43 ∷ 7 ∷ 3 ∷ 7 ∷ 0 ∷ 0 ∷ 0 ∷ [])
+unfolding count every any firstWhere total upTo flatten floorsDown groups numberBytes readGroups readNumber readWithin ascending rowsAt member holds together subsets crowded firstCrowded firstBad headNumbers readKind readBase readLayers layersAt firstCrowdedOf checkLength checkEnd checkAscending checkPackings checkRows readPack checkPack packBytes lostBy loss losses figureOf placementBytes placementFile sevenPlacement lossOf least lastLeast leastLoss bestCount namedCounts namedSplit repeated splitPlacement namedPlacement hasBlock checkOrder checkBlocks checkWork checkOutput planPack plan
+chosen-by-nested-floors = refl
 
 -- a pack of one block, 0 1, in layer 1
 abbrev upperBlock : List ℕ
@@ -54,6 +60,6 @@ pub plans : (planP 4 3 9 ≡ refused (BadOrder 0))
     × (planOf upperBlock 1 1 9 0 0 ≡ refused NoBlock)
     × (planOf (packBytes row245) 2 3 9 19 90 ≡ refused (ShortWork 20))
     × (planOf (packBytes row245) 2 3 9 20 90 ≡ refused (ShortOutput 91))
-    × (planOf (packBytes row245) 2 3 9 20 91 ≡ accepted sevenPlacement)
-unfolding count every any firstWhere total upTo flatten choose readGroups readNumber readWithin ascending rowsAt member holds together subsets crowded firstCrowded firstBad readKind readBase readLayers layersAt firstCrowdedOf checkLength checkEnd checkAscending checkPackings checkRows readPack checkPack packBytes loss losses figureOf sevenPlacement lossOf least lastLeast leastLoss bestCount namedCounts namedSplit repeated splitPlacement namedPlacement hasBlock checkOrder checkBlocks checkWork checkOutput planPack plan
+    × (planOf (packBytes row245) 2 3 9 20 91 ≡ accepted (sevenPlacement 3))
+unfolding count every any firstWhere total upTo flatten floorsDown readGroups readNumber readWithin ascending rowsAt member holds together subsets crowded firstCrowded firstBad readKind readBase readLayers layersAt firstCrowdedOf checkLength checkEnd checkAscending checkPackings checkRows readPack checkPack packBytes lostBy loss losses figureOf sevenPlacement lossOf least lastLeast leastLoss bestCount namedCounts namedSplit repeated splitPlacement namedPlacement hasBlock checkOrder checkBlocks checkWork checkOutput planPack plan
 plans = (refl, refl, refl, refl, refl, refl, refl, refl, refl, refl)

@@ -13,6 +13,7 @@ use Rattle.layers.specs.Layers.{Layer, headsOf}
 use Rattle.layers.specs.declared.LayerHead.{LayerHead}
 use Rattle.pack.specs.Pack.{Pack, checkPack}
 use Rattle.placement.specs.Placement.{Placement, OrderLimits, placementBytes}
+use Rattle.placement.specs.declared.Rule.the-variants.{NestedFloors}
 use Rattle.placement.specs.declared.Order.{Order}
 use Rattle.split.specs.Splits.{Share, splitFigure, hasBlock, namedSplit}
 
@@ -25,22 +26,23 @@ abbrev pub placed : Layer → Share → Layer
 placed blocks share =
     record { bound = share .copies * blocks .bound; rows = repeated (blocks .rows) (share .count) }
 
--- the placement of a split
+-- the placement of a split; request (d): "The planner writes kind 3", whose rule of loss is the nested floors
 unfoldable pub splitPlacement : Pack → (s k b : ℕ) → (ℕ → Share) → Placement
 splitPlacement pack s k b split =
     record {
+      kind = 3;
       n = pack .n;
       r = pack .r;
       s = s;
       k = k;
       b = b;
-      figure = splitFigure (headsOf (pack .layers)) s k b split;
+      figure = splitFigure NestedFloors (headsOf (pack .layers)) s k b split;
       layers = map (λ x. placed (blocksAt (pack .layers) x) (split x)) (upTo s);
     }
 
--- demand 2: "the one placement that 01 names"
+-- demand 2: "the one placement that 01 names"; request (d): it "is judged best by this figure", that of the nested floors
 unfoldable pub namedPlacement : Pack → (s k b : ℕ) → Placement
-namedPlacement pack s k b = splitPlacement pack s k b (namedSplit (headsOf (pack .layers)) s k b)
+namedPlacement pack s k b = splitPlacement pack s k b (namedSplit NestedFloors (headsOf (pack .layers)) s k b)
 
 -- "s 1..r; k s..n-1; b 1..4,096"; "s, k or b outside limits": refusal 12, place "0, 1 or 2 in that order"
 unfoldable pub checkOrder : (n r : ℕ) → Order → Checked Unit

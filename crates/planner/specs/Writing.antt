@@ -29,7 +29,7 @@ countsPlacement pack order counts =
 -- the numbers of a placement's head
 abbrev pub writtenNumbers : Base → Order → (figure : ℕ) → List LayerHead → List ℕ
 writtenNumbers base order figure heads =
-    2 ∷ base .n ∷ base .r ∷ order .s ∷ order .k ∷ order .b ∷ figure ∷ headNumbers heads
+    3 ∷ base .n ∷ base .r ∷ order .s ∷ order .k ∷ order .b ∷ figure ∷ headNumbers heads
 
 -- the rows of the layers below x, "layer by layer", with the counts in the placement's head: "Row j (from 0) of a layer is
 -- its block j mod m"

@@ -18,6 +18,7 @@ use Rattle.layers.specs.declared.LayerHead.{LayerHead}
 use Rattle.layers.proofs.Arrays.{getD-five}
 use Rattle.pack.specs.Pack.{Pack}
 use Rattle.placement.specs.Placement.{Placement}
+use Rattle.placement.specs.declared.Rule.the-variants.{NestedFloors}
 use Rattle.placement.specs.declared.Order.{Order}
 use Rattle.split.specs.Splits.{Share, Split, layerAt, hasBlock, namedCounts, namedSplit, shareOf, countsSplit}
 use Rattle.split.specs.Table.{Limits}
@@ -45,14 +46,14 @@ split-congr heads s b a c h is =
 
 -- the named placement's counts
 sizes-are : (pack : Pack) (s k b : ℕ)
-    → map (λ layer. length (layer .rows)) (namedPlacement pack s k b .layers) ≡ namedCounts (headsOf (pack .layers)) s k s b
+    → map (λ layer. length (layer .rows)) (namedPlacement pack s k b .layers) ≡ namedCounts NestedFloors (headsOf (pack .layers)) s k s b
 unfolding namedPlacement splitPlacement namedSplit
 sizes-are pack s k b =
-    let counts = namedCounts (headsOf (pack .layers)) s k s b in
-    let layer : ℕ → Layer = λ x. placed (blocksAt (pack .layers) x) (namedSplit (headsOf (pack .layers)) s k b x) in
+    let counts = namedCounts NestedFloors (headsOf (pack .layers)) s k s b in
+    let layer : ℕ → Layer = λ x. placed (blocksAt (pack .layers) x) (namedSplit NestedFloors (headsOf (pack .layers)) s k b x) in
     map-map (λ layer. length (layer .rows)) layer (upTo s)
     ∙ map-upTo-congr _ _ s (λ x l. length-repeated (blocksAt (pack .layers) x .rows) (getD counts x 0))
-    ∙ map-getD-upTo counts 0 s (length-namedCounts (headsOf (pack .layers)) s k s b)
+    ∙ map-getD-upTo counts 0 s (length-namedCounts NestedFloors (headsOf (pack .layers)) s k s b)
 
 -- a refusal leaves the slices as they were
 pub refused-done : {planned : Checked Placement} {e : Refusal} (work out : List ℕ) {given : PlanResult}
@@ -89,26 +90,26 @@ module _ {base : Base} {layers : List LayerHead} {blocks : List ℕ} (held : Pac
     module _ {before after counts : List ℕ} (chosen : Chosen layers order before after counts) where
       -- the counts are the named split's, by the code's numbers and by the pack's
       shares-are : (x : ℕ) → x < order .s
-          → countsSplit layers counts x ≡ namedSplit layers (order .s) (order .k) (order .b) x
+          → countsSplit layers counts x ≡ namedSplit NestedFloors layers (order .s) (order .k) (order .b) x
       unfolding namedSplit
       shares-are x l =
           ap (shareOf (layerAt layers x))
           (ap (λ (c : List ℕ). getD c x 0) (chosen .counts)
-          ∙ getD-five 0 (namedCounts layers (order .s) (order .k) (order .s) (order .b)) x (omega (arith, s-le-five)))
+          ∙ getD-five 0 (namedCounts NestedFloors layers (order .s) (order .k) (order .s) (order .b)) x (omega (arith, s-le-five)))
 
       agree : (x : ℕ) → x < order .s → layerAt layers x ≡ layerAt heads x
       agree x l = sym (layerAt-held (base .r) layers blocks x (omega (arith, fits .within .s-most)))
 
-      counts-are : counts ≡ five 0 (namedCounts heads (order .s) (order .k) (order .s) (order .b))
-      counts-are = chosen .counts ∙ ap (five 0) (namedCounts-congr layers heads (order .s) (order .k) (order .s) (order .b) agree)
+      counts-are : counts ≡ five 0 (namedCounts NestedFloors heads (order .s) (order .k) (order .s) (order .b))
+      counts-are = chosen .counts ∙ ap (five 0) (namedCounts-congr NestedFloors layers heads (order .s) (order .k) (order .s) (order .b) agree)
 
       pack-shares-are : (x : ℕ) → x < order .s
-          → countsSplit heads counts x ≡ namedSplit heads (order .s) (order .k) (order .b) x
+          → countsSplit heads counts x ≡ namedSplit NestedFloors heads (order .s) (order .k) (order .b) x
       unfolding namedSplit
       pack-shares-are x l =
           ap (shareOf (layerAt heads x))
           (ap (λ (c : List ℕ). getD c x 0) counts-are
-          ∙ getD-five 0 (namedCounts heads (order .s) (order .k) (order .s) (order .b)) x (omega (arith, s-le-five)))
+          ∙ getD-five 0 (namedCounts NestedFloors heads (order .s) (order .k) (order .s) (order .b)) x (omega (arith, s-le-five)))
 
       -- what writing asks
       pub writable : Writable base layers blocks order counts
@@ -119,7 +120,7 @@ module _ {base : Base} {layers : List LayerHead} {blocks : List ℕ} (held : Pac
             within = fits .within;
             is-split =
                 split-congr layers (order .s) (order .b) _ (countsSplit layers counts) shares-are
-                (namedSplit-is-split layers (order .s) (order .k) (order .b) (fits .within .b-most) block);
+                (namedSplit-is-split NestedFloors layers (order .s) (order .k) (order .b) (fits .within .b-most) block);
           }
 
       placement-is : countsPlacement pack order counts ≡ namedPlacement pack (order .s) (order .k) (order .b)

@@ -19,7 +19,7 @@ fn head_numbers(base: Base, order: Order, figure: usize, heads: [LayerHead; 5]) 
     let h3 = heads[3];
     let h4 = heads[4];
     [
-        2,
+        3,
         base.n,
         base.r,
         order.s,

@@ -6,6 +6,7 @@ mod shares;
 use layers::Base;
 use layers::LayerHead;
 use placement::Order;
+use placement::Rule;
 use planner::PlanAnswer;
 ghost use mathlib.Core.Path.{_≡_};
 ghost use Prim.Native.Nat.{_≤_};
@@ -15,8 +16,8 @@ ghost use Rattle.planner.specs.Planning.{outputNeeded, outputAfter};
 ghost use Rattle.planner.specs.Answers.{planAnswer};
 ghost use Rattle.planner.specs.Writing.{heldPack, countsPlacement, Writable};
 
-// Writes the placement of the split with these counts and the least copies to the start of `out`. `blocks` has the pack's
-// blocks. Returns its length and figure.
+// Writes the placement of the split with these counts and the least copies, a file of kind 3, to the start of `out`.
+// `blocks` has the pack's blocks. Returns its length and figure.
 pub fn write_placement(
     out: &mut [u8],
     blocks: &[u8],
@@ -36,7 +37,7 @@ pub fn write_placement(
     let s = order.s;
     let b = order.b;
     let heads = crate::shares::split_heads(layers, counts, s);
-    let figure = placement_figure::figure_of(order, heads);
+    let figure = placement_figure::figure_of(Rule::NestedFloors, order, heads);
     let at = crate::head::write_head(out, base, order, figure, heads);
     crate::rows::write_layers(&mut out[at..], blocks, r, s, layers, heads);
     PlanAnswer::Planned {

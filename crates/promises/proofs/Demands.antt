@@ -19,6 +19,7 @@ use Rattle.pack.specs.Pack.{Pack, PackFile, GoodPack, packNumbers, readPack}
 use Rattle.pack.specs.Answers.{packChecked, packOutcome, packValues}
 use Rattle.pack.proofs.Accepted.{read-of-pack, pack-accepted}
 use Rattle.placement.specs.Placement.{Placement, PlacementFile, GoodPlacement, placementNumbers, placementBytes, readPlacement}
+use Rattle.placement.specs.declared.Rule.the-variants.{NestedFloors}
 use Rattle.placement.specs.Answers.{placementChecked, placementOutcome, placementValues}
 use Rattle.placement.proofs.Accepted.{read-of-placement, placement-accepted}
 use Rattle.placement.proofs.Survivors.{survivors}
@@ -65,8 +66,8 @@ demand-2-pack bytes values h = (λ e. to (readPack bytes) refl e, from)
         let place = one-place bytes first (file .first) (p .layers) (f .inside, f .rest) stands in
         rw (pack-accepted bytes p first f good, place, same)
 
--- The same of a placement, "and a placement's figure is the one 01's formula gives": the last field of `GoodPlacement`. The
--- answer has the placement's n, r, s, k, b and F, the place where its rows stand, and lambda and c of each layer.
+-- The same of a placement, "and a placement's figure is the one 01's formula gives", in kind 3 that of request (d): the last field of `GoodPlacement`. The
+-- answer has the placement's kind, n, r, s, k, b and F, the place where its rows stand, and lambda and c of each layer.
 pub demand-2-placement : (bytes values : List ℕ) → Bytes bytes
     → (placementOutcome (placementChecked (readPlacement bytes)) ≡ result values)
     ↔ ((file : Located Placement) × (values ≡ placementValues file) × PlacementFile (file .content) bytes
@@ -95,23 +96,23 @@ demand-2-placement bytes values h = (λ e. to (readPlacement bytes) refl e, from
         let place = one-place bytes first (file .first) (p .layers) (f .inside, f .rest) stands in
         rw (placement-accepted bytes p first f good, place, same)
 
--- "the planner writes the one placement that 01 names": two splits that are named are one, and so are their placements and
+-- "the planner writes the one placement that 01 names", by the figure of kind 3: two splits that are named are one, and so are their placements and
 -- the bytes of these.
 pub demand-2-one-named : (pack : Pack) (s k b : ℕ) (split other : ℕ → Share)
-    → Named (headsOf (pack .layers)) s k b split → Named (headsOf (pack .layers)) s k b other
+    → Named NestedFloors (headsOf (pack .layers)) s k b split → Named NestedFloors (headsOf (pack .layers)) s k b other
     → ((x : ℕ) → x < s → split x ≡ other x)
     × (splitPlacement pack s k b split ≡ splitPlacement pack s k b other)
     × (placementBytes (splitPlacement pack s k b split) ≡ placementBytes (splitPlacement pack s k b other))
 demand-2-one-named pack s k b split other a c =
-    let shares = named-unique (headsOf (pack .layers)) s k b split other a c in
+    let shares = named-unique NestedFloors (headsOf (pack .layers)) s k b split other a c in
     let same = splitPlacement-congr pack s k b split other shares in
     (shares, same, ap placementBytes same)
 
 -- Demand 3: "The survivor figure F of every accepted placement holds whichever k of its n nodes fail: at least F of its b
 -- records have fewer than s replicas among the failed." Which nodes fail is a test that just k of the n nodes pass; record j is
 -- the r bytes at the first row's place plus j × r.
-pub demand-3-survivors : (bytes : List ℕ) {n r s k b figure first : ℕ} {layers : List ℕ}
-    → placementOutcome (placementChecked (readPlacement bytes)) ≡ result (n ∷ r ∷ s ∷ k ∷ b ∷ figure ∷ first ∷ layers)
+pub demand-3-survivors : (bytes : List ℕ) {kind n r s k b figure first : ℕ} {layers : List ℕ}
+    → placementOutcome (placementChecked (readPlacement bytes)) ≡ result (kind ∷ n ∷ r ∷ s ∷ k ∷ b ∷ figure ∷ first ∷ layers)
     → (failed : ℕ → Bool) → Failure n k failed
     → figure ≤ usable s (recordsIn bytes first r b) failed
 demand-3-survivors bytes e failed f =
@@ -120,9 +121,9 @@ demand-3-survivors bytes e failed f =
     rw (y .figure-is, y .s-is, y .records) at holds
 
 -- The same for failed nodes as a list: k different nodes below n.
-pub demand-3-whichever : (bytes : List ℕ) {n r s k b figure first : ℕ} {layers : List ℕ}
-    → placementOutcome (placementChecked (readPlacement bytes)) ≡ result (n ∷ r ∷ s ∷ k ∷ b ∷ figure ∷ first ∷ layers)
+pub demand-3-whichever : (bytes : List ℕ) {kind n r s k b figure first : ℕ} {layers : List ℕ}
+    → placementOutcome (placementChecked (readPlacement bytes)) ≡ result (kind ∷ n ∷ r ∷ s ∷ k ∷ b ∷ figure ∷ first ∷ layers)
     → (failed : List ℕ) → FailedNodes n k failed
     → figure ≤ usable s (recordsIn bytes first r b) (λ v. member v failed)
-demand-3-whichever bytes {n} {k = k} e failed f =
+demand-3-whichever bytes {n = n} {k = k} e failed f =
     demand-3-survivors bytes e (λ v. member v failed) (failure-of-nodes n k failed f)

@@ -6,4 +6,5 @@ pub mod Answers
 pub mod Refusals
 pub mod Requests
 pub mod RequestC
+pub mod RequestD
 pub mod Starred

@@ -18,6 +18,7 @@ use Rattle.layers.specs.Layers.{Located, headsOf}
 use Rattle.pack.specs.Pack.{Pack, PackFile, GoodPack}
 use Rattle.pack.proofs.Accepted.{pack-accepted-iff}
 use Rattle.placement.specs.Placement.{Placement, OrderLimits, placementBytes, readPlacement, checkPlacement}
+use Rattle.placement.specs.declared.Rule.the-variants.{NestedFloors}
 use Rattle.placement.specs.Answers.{placementChecked, placementOutcome, placementValues}
 use Rattle.placement.specs.declared.Order.{Order}
 use Rattle.placement.proofs.Written.{written-bytes}
@@ -35,7 +36,7 @@ pub record Kept (pack : Pack) (s k b : ℕ) (work work-left out out-left : List 
   pub split : ℕ → Share
   pub placement : Placement
   -- "the placement of the pack's blocks that document 01 names"
-  pub named : Named (headsOf (pack .layers)) s k b split
+  pub named : Named NestedFloors (headsOf (pack .layers)) s k b split
   pub of-named : placement ≡ splitPlacement pack s k b split
   -- "the planner doesn't refuse": "The answer is the length, F and the counts."
   pub answered : planOutcome given ≡ result (planValues placement)
@@ -52,7 +53,9 @@ pub record Kept (pack : Pack) (s k b : ℕ) (work work-left out out-left : List 
   pub checked : placementOutcome (placementChecked (readPlacement (placementBytes placement)))
       ≡ result (placementValues (record { content = placement; first = first }))
   -- "That placement has the pack's n and r, the given s, k and b"; its F and counts are the answer's, by `planValues`
-  pub numbers : (placement .n ≡ pack .n)
+  -- the kind is that of request (d)
+  pub numbers : (placement .kind ≡ 3)
+      × (placement .n ≡ pack .n)
       × (placement .r ≡ pack .r)
       × (placement .s ≡ s)
       × (placement .k ≡ k)
@@ -62,7 +65,7 @@ pub record Kept (pack : Pack) (s k b : ℕ) (work work-left out out-left : List 
       → placement .figure ≤ usable s (recordsIn (placementBytes placement) first (pack .r) b) (λ v. member v failed)
   -- "Every other split of the b records over the layers .. has a figure of at most F."
   pub best : (other : ℕ → Share) → Split (headsOf (pack .layers)) s b other
-      → splitFigure (headsOf (pack .layers)) s k b other ≤ placement .figure
+      → splitFigure NestedFloors (headsOf (pack .layers)) s k b other ≤ placement .figure
 
 -- Demand 3: "For every accepted pack, every s, k and b within limits with a block in some layer below s, and all buffers at
 -- least as long as stated, whatever they hold". A pack is accepted where its file is and it is good (`demand-2-pack`); `PlanDone`
@@ -90,9 +93,9 @@ demand-3-written bytes pack h is s k b limits block work work-left out out-left 
     read ∙ (λ i. accepted (record { content = same i; first = file .first })) in
     let says = ap (λ c. placementOutcome (placementChecked c)) found in
     record {
-      split = namedSplit (headsOf (pack .layers)) s k b;
+      split = namedSplit NestedFloors (headsOf (pack .layers)) s k b;
       placement = p;
-      named = named (headsOf (pack .layers)) s k b (limits .b-most) block;
+      named = named NestedFloors (headsOf (pack .layers)) s k b (limits .b-most) block;
       of-named = refl;
       answered = ap planOutcome (d .answer);
       written = rw (d .output-after) (take-at wrote (drop (length wrote) out) (length wrote) refl);
@@ -104,9 +107,9 @@ demand-3-written bytes pack h is s k b limits block work work-left out out-left 
       work-length = d .work-after .0;
       first = file .first;
       checked = says;
-      numbers = (refl, refl, refl, refl, refl);
+      numbers = (refl, refl, refl, refl, refl, refl);
       survives = demand-3-whichever wrote says;
-      best = named-highest (headsOf (pack .layers)) s k b (limits .b-most) block;
+      best = named-highest NestedFloors (headsOf (pack .layers)) s k b (limits .b-most) block;
     }
 
 -- Demand 1 of the planner: "after a refusal each lent buffer holds what it held before".

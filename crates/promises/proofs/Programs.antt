@@ -17,6 +17,7 @@ use Rattle.layers.proofs.NumbersRead.{forms-reads}
 use Rattle.pack.specs.Pack.{Pack, PackFile, GoodPack}
 use Rattle.pack.proofs.Accepted.{pack-accepted-iff}
 use Rattle.placement.specs.Placement.{OrderLimits, placementBytes}
+use Rattle.placement.specs.declared.Rule.the-variants.{NestedFloors}
 use Rattle.placement.specs.declared.Order.{Order}
 use Rattle.split.specs.Splits.{Share, Named, hasBlock, namedSplit}
 use Rattle.split.proofs.Named.{named}
@@ -43,7 +44,7 @@ order-read s k b pack most =
 -- What `plan` writes for a good order is the named placement, and `check` prints its line.
 pub demand-3-programs : (bytes : List ℕ) (pack : Pack) → Bytes bytes → PackFile pack bytes × GoodPack pack
     → (s k b : ℕ) → OrderLimits (pack .n) (pack .r) (record { s = s; k = k; b = b }) → T (hasBlock (headsOf (pack .layers)) s)
-    → (split : ℕ → Share) × (line : Summary) × Named (headsOf (pack .layers)) s k b split
+    → (split : ℕ → Share) × (line : Summary) × Named NestedFloors (headsOf (pack .layers)) s k b split
     × (planReply (orderInput s k b bytes) ≡ placementBytes (splitPlacement pack s k b split))
     × (checkLine (planReply (orderInput s k b bytes)) ≡ acceptedLine line)
     × (line .figure ≡ splitPlacement pack s k b split .figure)
@@ -69,9 +70,9 @@ demand-3-programs bytes pack h is s k b limits block =
     let line : checkLine (planReply (orderInput s k b bytes)) ≡ acceptedLine (summary p) =
     ap checkLine wrote
     ∙ ap (λ c. orRefusedLine (mapAccepted (λ q. acceptedLine (summary q)) c)) (plan-accepted bytes pack accept order limits block) in (
-      namedSplit (headsOf (pack .layers)) s k b,
+      namedSplit NestedFloors (headsOf (pack .layers)) s k b,
       summary p,
-      named (headsOf (pack .layers)) s k b (limits .b-most) block,
+      named NestedFloors (headsOf (pack .layers)) s k b (limits .b-most) block,
       wrote,
       line,
       refl,

@@ -17,10 +17,13 @@ use Rattle.packing.specs.Rows.{distinct, subsets, SetIn}
 use Rattle.packing.proofs.Sets.{ListedSet, subsets-in, listed-set}
 use Rattle.packing.proofs.Subsets.{AllApart, length-subsets, subsets-apart}
 use Rattle.layers.specs.Layers.{BaseReading, LayerHeads, readKind, readBase, readLayers}
+use Rattle.layers.specs.declared.FileKind.{FileKind}
+use Rattle.layers.specs.declared.FileKind.the-variants.{Pack as PackKind, Placement as PlacementKind}
 use Rattle.layers.specs.Meaning.{KindRefused, RowsRefused}
 use Rattle.layers.proofs.KindMeaning.{kind-refused-iff}
 use Rattle.pack.specs.Pack.{packLayerLimits, checkPack}
 use Rattle.pack.proofs.Meaning.{pack-refused-iff}
+use Rattle.placement.specs.Figure.{ruleOf}
 use Rattle.placement.specs.Placement.{TermsReading, placementLayerLimits, readTerms, checkPlacement}
 use Rattle.placement.specs.Meaning.{PlacementRefused}
 use Rattle.placement.proofs.Meaning.{placement-refused-iff}
@@ -30,7 +33,8 @@ pub refusals-of-a-number : (s : List ℕ) (at : ℕ) (e : Refusal) → (readNumb
 refusals-of-a-number = number-refused-iff
 
 -- "Head numbers are checked in file order, each for 1, 2, then 3 or 4": the first number, and any later one
-pub refusals-of-the-kind : (kind : ℕ) (s : List ℕ) (e : Refusal) → (readKind kind s ≡ refused e) ↔ KindRefused kind s e
+pub refusals-of-the-kind : (file : FileKind) (s : List ℕ) (e : Refusal)
+    → (readKind file s ≡ refused e) ↔ KindRefused file s e
 refusals-of-the-kind = kind-refused-iff
 
 pub refusals-of-a-head-number : (lo hi : ℕ) (s : List ℕ) (at : ℕ) (e : Refusal)
@@ -38,18 +42,18 @@ pub refusals-of-a-head-number : (lo hi : ℕ) (s : List ℕ) (at : ℕ) (e : Ref
 refusals-of-a-head-number = within-refused-iff
 
 -- "Then 1 or 5 for the rows' total length, then 6 over all rows, then 7": a pack whose head's numbers are in order, with any x
-pub refusals-of-a-pack : (s : List ℕ) {head : BaseReading} {numbers : LayerHeads} → readBase 1 s ≡ accepted head
+pub refusals-of-a-pack : (s : List ℕ) {head : BaseReading} {numbers : LayerHeads} → readBase PackKind s ≡ accepted head
     → readLayers packLayerLimits (head .base .r) 4_096 s (head .next) ≡ accepted numbers
     → (e : Refusal) → (checkPack s ≡ refused e) ↔ RowsRefused (head .base) (numbers .heads) s (numbers .next) e
 refusals-of-a-pack = pack-refused-iff
 
--- "then 8": a placement whose head's numbers are in order
+-- "then 8": a placement whose head's numbers are in order, the figure being that of its kind
 pub refusals-of-a-placement : (s : List ℕ) {head : BaseReading} {order : TermsReading} {numbers : LayerHeads}
-    → readBase 2 s ≡ accepted head
+    → readBase PlacementKind s ≡ accepted head
     → readTerms (head .base) s (head .next) ≡ accepted order
     → readLayers placementLayerLimits (order .terms .s) (order .terms .b) s (order .next) ≡ accepted numbers
     → (e : Refusal)
-    → (checkPlacement s ≡ refused e) ↔ PlacementRefused (head .base) (order .terms) (numbers .heads) s (numbers .next) e
+    → (checkPlacement s ≡ refused e) ↔ PlacementRefused (ruleOf (head .kind)) (head .base) (order .terms) (numbers .heads) s (numbers .next) e
 refusals-of-a-placement = placement-refused-iff
 
 -- "C(m,j) is the number of j-element subsets of m things": of distinct things `subsets` lists sets of j of them, every such

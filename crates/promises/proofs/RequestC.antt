@@ -4,7 +4,7 @@ use Prim.Native.Nat.{ℕ, _+_, _-_, _≤_, _<_}
 use native.Mathlib.Omega.{arith}
 use mathlib.Core.Path.{_≡_, refl, sym, _∙_, ap, subst}
 use mathlib.Core.Bool.{Bool}
-use mathlib.Core.List.{List, [], _∷_, _++_}
+use mathlib.Core.List.{List, [], _∷_}
 use lib.ListN.{length, getD, drop, length-append, length-drop, List·getD-append}
 use lib.Seq.{drop-at}
 use borrow.Author.Tests.{le-leb, lt-leb}
@@ -22,7 +22,7 @@ use Rattle.placement.specs.Units.{figureAt}
 use Rattle.placement.specs.Answers.{placementChecked, placementOutcome}
 use Rattle.placement.proofs.Units.{figureAt-falls, figureAt-holds, figureAt-planned, survivors-at-most}
 use Rattle.curve.specs.Curve.{curveOf, checkCurve}
-use Rattle.promises.proofs.Says.{not-both, Says, says}
+use Rattle.promises.proofs.Says.{not-both, says}
 
 -- What is promised of a call on an accepted placement that was lent `out`, left `out-left` in it and answered `given`.
 pub record CurveKept (n r s k b figure first : ℕ) (bytes out out-left : List ℕ) (given : Writing) : Type 0 where
@@ -65,11 +65,11 @@ module _ (bytes out out-left : List ℕ) (given : Writing) (done : WritingDone (
       let is : checkCurve bytes (length out) ≡ accepted (curveOf p) = rw (e, le-leb (p .n - p .s) (length out) enough) in
       subst (λ c. WritingDone c out out-left given) is done
 
-  pub c-curve : {n r s k b figure first : ℕ} {layers : List ℕ}
-      → placementOutcome (placementChecked (readPlacement bytes)) ≡ result (n ∷ r ∷ s ∷ k ∷ b ∷ figure ∷ first ∷ layers)
+  pub c-curve : {kind n r s k b figure first : ℕ} {layers : List ℕ}
+      → placementOutcome (placementChecked (readPlacement bytes)) ≡ result (kind ∷ n ∷ r ∷ s ∷ k ∷ b ∷ figure ∷ first ∷ layers)
       → n - s ≤ length out → CurveKept n r s k b figure first bytes out out-left given
   unfolding checkPlacement
-  c-curve {n} {r} {s} {k} {b} {figure} {first} {layers} e enough =
+  c-curve {kind} {n} {r} {s} {k} {b} {figure} {first} {layers} e enough =
       let y = says bytes e in
       let p = y .file .content in
       let ns = y .n-is in
@@ -117,11 +117,11 @@ module _ (bytes out out-left : List ℕ) (given : Writing) (done : WritingDone (
           (ap writingOutcome (d .answer) ∙ p, d .output-after)
 
   -- "a shorter output is then refusal 11, its place the entries needed"
-  pub c-short-output : {n r s k b figure first : ℕ} {layers : List ℕ}
-      → placementOutcome (placementChecked (readPlacement bytes)) ≡ result (n ∷ r ∷ s ∷ k ∷ b ∷ figure ∷ first ∷ layers)
+  pub c-short-output : {kind n r s k b figure first : ℕ} {layers : List ℕ}
+      → placementOutcome (placementChecked (readPlacement bytes)) ≡ result (kind ∷ n ∷ r ∷ s ∷ k ∷ b ∷ figure ∷ first ∷ layers)
       → length out < n - s → (writingOutcome given ≡ refusal 11 (n - s)) × (out-left ≡ out)
   unfolding checkCurve checkPlacement
-  c-short-output {n} {s = s} e short =
+  c-short-output {n = n} {s = s} e short =
       let y = says bytes e in
       let p = y .file .content in
       let same : p .n - p .s ≡ n - s = rw (y .n-is, y .s-is) refl in
@@ -131,8 +131,8 @@ module _ (bytes out out-left : List ℕ) (given : Writing) (done : WritingDone (
       (ap writingOutcome (d .answer) ∙ ap (refusal 11) same, d .output-after)
 
 -- F holds for every failure of at most k nodes
-pub c-at-most : (bytes : List ℕ) {n r s k b figure first : ℕ} {layers : List ℕ}
-    → placementOutcome (placementChecked (readPlacement bytes)) ≡ result (n ∷ r ∷ s ∷ k ∷ b ∷ figure ∷ first ∷ layers)
+pub c-at-most : (bytes : List ℕ) {kind n r s k b figure first : ℕ} {layers : List ℕ}
+    → placementOutcome (placementChecked (readPlacement bytes)) ≡ result (kind ∷ n ∷ r ∷ s ∷ k ∷ b ∷ figure ∷ first ∷ layers)
     → (j : ℕ) (failed : ℕ → Bool) → j ≤ k → Failure n j failed
     → figure ≤ usable s (recordsIn bytes first r b) failed
 c-at-most bytes e j failed few f =

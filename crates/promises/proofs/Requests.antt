@@ -33,16 +33,16 @@ use Rattle.report.proofs.Padding.{planInput-padded}
 
 -- (a) "Our certificate office now rounds all site averages half to even. The mean that `check` prints follows": the mean in the
 -- line is within a half of b × r / n and even where it is just a half away, and it is the only such number.
-pub a-half-to-even : (input : List ℕ) {n r s k b figure first : ℕ} {layers : List ℕ}
-    → placementOutcome (placementChecked (readPlacement input)) ≡ result (n ∷ r ∷ s ∷ k ∷ b ∷ figure ∷ first ∷ layers)
+pub a-half-to-even : (input : List ℕ) {kind n r s k b figure first : ℕ} {layers : List ℕ}
+    → placementOutcome (placementChecked (readPlacement input)) ≡ result (kind ∷ n ∷ r ∷ s ∷ k ∷ b ∷ figure ∷ first ∷ layers)
     → (line : Summary) × (checkLine input ≡ acceptedLine line)
     × Rounded (b * r) n (line .mean)
     × ((m : ℕ) → Rounded (b * r) n m → m ≡ line .mean)
 unfolding checkLine checkPlacement summary
-a-half-to-even input {n} {r} {s} {k} {b} {figure} {first} {layers} e = go (readPlacement input) refl e
+a-half-to-even input {kind} {n} {r} {s} {k} {b} {figure} {first} {layers} e = go (readPlacement input) refl e
   where
     go : (c : Checked (Located Placement)) → readPlacement input ≡ c
-        → placementOutcome (placementChecked c) ≡ result (n ∷ r ∷ s ∷ k ∷ b ∷ figure ∷ first ∷ layers)
+        → placementOutcome (placementChecked c) ≡ result (kind ∷ n ∷ r ∷ s ∷ k ∷ b ∷ figure ∷ first ∷ layers)
         → (line : Summary) × (checkLine input ≡ acceptedLine line)
         × Rounded (b * r) n (line .mean)
         × ((m : ℕ) → Rounded (b * r) n m → m ≡ line .mean)
@@ -119,10 +119,10 @@ pack-answers (both-accepted same) =
 pack-answers (both-refused e) = refusals e
 
 placement-answers : {c d : Checked (Located Placement)} → Agree SameContent c d
-    → SameAnswer 6 (placementOutcome (placementChecked c)) (placementOutcome (placementChecked d))
+    → SameAnswer 7 (placementOutcome (placementChecked c)) (placementOutcome (placementChecked d))
 placement-answers (both-accepted same) =
     results
-    (ap (λ p. p .n ∷ p .r ∷ p .s ∷ p .k ∷ p .b ∷ p .figure ∷ []) same)
+    (ap (λ p. p .kind ∷ p .n ∷ p .r ∷ p .s ∷ p .k ∷ p .b ∷ p .figure ∷ []) same)
     (ap (λ p. headNumbers (fiveHeads (headsOf (p .layers)))) same)
 placement-answers (both-refused e) = refusals e
 
@@ -133,7 +133,7 @@ b-same-pack-answer numbers f g rest forms forms′ most = pack-answers (b-same-p
 
 pub b-same-placement-answer : (numbers f g rest : List ℕ) → Forms numbers f → Forms numbers g
     → length numbers ≤ 7 + 2 * getD numbers 3 0
-    → SameAnswer 6 (placementOutcome (placementChecked (readPlacement (f ++ rest))))
+    → SameAnswer 7 (placementOutcome (placementChecked (readPlacement (f ++ rest))))
     (placementOutcome (placementChecked (readPlacement (g ++ rest))))
 b-same-placement-answer numbers f g rest forms forms′ most = placement-answers (b-same-placement numbers f g rest forms forms′ most)
 

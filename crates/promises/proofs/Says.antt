@@ -28,13 +28,13 @@ pub record Says (bytes : List ℕ) (n r s k b figure first : ℕ) : Type 0 where
   pub figure-is : file .content .figure ≡ figure
   pub records : allRows (file .content .layers) ≡ recordsIn bytes first r b
 
-pub says : (bytes : List ℕ) {n r s k b figure first : ℕ} {layers : List ℕ}
-    → placementOutcome (placementChecked (readPlacement bytes)) ≡ result (n ∷ r ∷ s ∷ k ∷ b ∷ figure ∷ first ∷ layers)
+pub says : (bytes : List ℕ) {kind n r s k b figure first : ℕ} {layers : List ℕ}
+    → placementOutcome (placementChecked (readPlacement bytes)) ≡ result (kind ∷ n ∷ r ∷ s ∷ k ∷ b ∷ figure ∷ first ∷ layers)
     → Says bytes n r s k b figure first
-says bytes {n} {r} {s} {k} {b} {figure} {first} {layers} e = go (readPlacement bytes) refl e
+says bytes {kind} {n} {r} {s} {k} {b} {figure} {first} {layers} e = go (readPlacement bytes) refl e
   where
     go : (c : Checked (Located Placement)) → readPlacement bytes ≡ c
-        → placementOutcome (placementChecked c) ≡ result (n ∷ r ∷ s ∷ k ∷ b ∷ figure ∷ first ∷ layers)
+        → placementOutcome (placementChecked c) ≡ result (kind ∷ n ∷ r ∷ s ∷ k ∷ b ∷ figure ∷ first ∷ layers)
         → Says bytes n r s k b figure first
     go (accepted file) q p =
         let place = file .content in

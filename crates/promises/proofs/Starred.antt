@@ -18,7 +18,7 @@ use Rattle.pack.proofs.Worked.{packs}
 use Rattle.placement.specs.Placement.{readPlacement, placementBytes}
 use Rattle.placement.specs.Answers.{placementChecked, placementOutcome}
 use Rattle.placement.specs.SevenCabinets.{placementFile, sevenPlacement}
-use Rattle.placement.proofs.Worked.{placements}
+use Rattle.placement.proofs.Worked.{placements, placements-of-kind-3}
 use Rattle.planner.specs.Answers.{planAnswer, planOutcome}
 use Rattle.planner.specs.SevenCabinets.{planP}
 use Rattle.planner.proofs.Worked.{orders}
@@ -40,25 +40,30 @@ pub starred :
     -- P's layer 1 with its last row 246: refusal 7, place 27
     × (packOutcome (packChecked (readPack (packBytes (2 ∷ 4 ∷ 6 ∷ [])))) ≡ refusal 7 27)
     -- with P, the length, F and the counts: s 2, k 2, b 7: F 6. s 2, k 3, b 7: F 4. s 2, k 3, b 9: F 5, counts 2 and 7.
-    -- s 2, k 2, b 9: F 7, counts 0 and 9. s 3, k 4, b 7: F 5. s 2, k 2, b 1: F 0
+    -- s 2, k 2, b 9: F 7, counts 0 and 9. s 3, k 4, b 7: F 6, by request (d) "where it had 5". s 2, k 2, b 1: F 0
     × (planOutcome (planAnswer (planP 2 2 7)) ≡ result (32 ∷ 6 ∷ 0 ∷ 7 ∷ 0 ∷ 0 ∷ 0 ∷ []))
     × (planOutcome (planAnswer (planP 2 3 7)) ≡ result (32 ∷ 4 ∷ 0 ∷ 7 ∷ 0 ∷ 0 ∷ 0 ∷ []))
     × (planOutcome (planAnswer (planP 2 3 9)) ≡ result (38 ∷ 5 ∷ 2 ∷ 7 ∷ 0 ∷ 0 ∷ 0 ∷ []))
     × (planOutcome (planAnswer (planP 2 2 9)) ≡ result (38 ∷ 7 ∷ 0 ∷ 9 ∷ 0 ∷ 0 ∷ 0 ∷ []))
-    × (planOutcome (planAnswer (planP 3 4 7)) ≡ result (34 ∷ 5 ∷ 0 ∷ 7 ∷ 0 ∷ 0 ∷ 0 ∷ []))
+    × (planOutcome (planAnswer (planP 3 4 7)) ≡ result (34 ∷ 6 ∷ 0 ∷ 7 ∷ 0 ∷ 0 ∷ 0 ∷ []))
     × (planOutcome (planAnswer (planP 2 2 1)) ≡ result (14 ∷ 0 ∷ 0 ∷ 1 ∷ 0 ∷ 0 ∷ 0 ∷ []))
     -- P's 36 bytes are accepted: n, r, the first block's place, then mu and m of each layer
     × (length (packBytes row245) ≡ 36)
     × (packOutcome (packChecked (readPack (packBytes row245)))
     ≡ result (7 ∷ 3 ∷ 9 ∷ 1 ∷ 2 ∷ 1 ∷ 7 ∷ 1 ∷ 0 ∷ 0 ∷ 0 ∷ 0 ∷ 0 ∷ []))
-    -- order s = 2, k = 3, b = 9 gives the whole file: 38 bytes, which are accepted: n, r, s, k, b, F, the first row's place,
-    -- then lambda and c of each layer. `check` prints `accepted 5 9 3 7 4 4`
-    × (planP 2 3 9 ≡ accepted sevenPlacement)
-    × (placementBytes sevenPlacement ≡ placementFile 5)
-    × (length (placementFile 5) ≡ 38)
-    × (placementOutcome (placementChecked (readPlacement (placementFile 5)))
-    ≡ result (7 ∷ 3 ∷ 2 ∷ 3 ∷ 9 ∷ 5 ∷ 11 ∷ 1 ∷ 2 ∷ 1 ∷ 7 ∷ 0 ∷ 0 ∷ 0 ∷ 0 ∷ 0 ∷ 0 ∷ []))
-    × (checkLine (placementFile 5)
+    -- order s = 2, k = 3, b = 9 gives the whole file: 38 bytes, which by request (d) "then begin with 3". They are accepted, and so
+    -- are those that begin with 2: the kind, n, r, s, k, b, F, the first row's place, then lambda and c of each layer. `check`
+    -- prints `accepted 5 9 3 7 4 4` for both
+    × (planP 2 3 9 ≡ accepted (sevenPlacement 3))
+    × (placementBytes (sevenPlacement 3) ≡ placementFile 3 5)
+    × (length (placementFile 2 5) ≡ 38)
+    × (placementOutcome (placementChecked (readPlacement (placementFile 3 5)))
+    ≡ result (3 ∷ 7 ∷ 3 ∷ 2 ∷ 3 ∷ 9 ∷ 5 ∷ 11 ∷ 1 ∷ 2 ∷ 1 ∷ 7 ∷ 0 ∷ 0 ∷ 0 ∷ 0 ∷ 0 ∷ 0 ∷ []))
+    × (placementOutcome (placementChecked (readPlacement (placementFile 2 5)))
+    ≡ result (2 ∷ 7 ∷ 3 ∷ 2 ∷ 3 ∷ 9 ∷ 5 ∷ 11 ∷ 1 ∷ 2 ∷ 1 ∷ 7 ∷ 0 ∷ 0 ∷ 0 ∷ 0 ∷ 0 ∷ 0 ∷ []))
+    × (checkLine (placementFile 2 5)
+    ≡ acceptedWord ++ (32 ∷ 53 ∷ 32 ∷ 57 ∷ 32 ∷ 51 ∷ 32 ∷ 55 ∷ 32 ∷ 52 ∷ 32 ∷ 52 ∷ 10 ∷ []))
+    × (checkLine (placementFile 3 5)
     ≡ acceptedWord ++ (32 ∷ 53 ∷ 32 ∷ 57 ∷ 32 ∷ 51 ∷ 32 ∷ 55 ∷ 32 ∷ 52 ∷ 32 ∷ 52 ∷ 10 ∷ []))
 starred = (
   binomials .0,
@@ -81,6 +86,8 @@ starred = (
   orders .6,
   orders .7,
   placements .0,
+  placements-of-kind-3 .1,
   placements .2,
   lines .0,
+  lines .1,
 )

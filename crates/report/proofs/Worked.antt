@@ -10,18 +10,21 @@ use Rattle.packing.specs.Rows.{member}
 use Rattle.packing.specs.SevenCabinets.{row245}
 use Rattle.pack.specs.SevenCabinets.{packBytes}
 use Rattle.placement.specs.SevenCabinets.{placementFile, sevenPlacement}
-use Rattle.placement.proofs.Worked.{placements}
+use Rattle.placement.proofs.Worked.{placements, placements-of-kind-3}
 use Rattle.planner.proofs.Worked.{orders}
 use Rattle.report.specs.Load.{halfToEven, mean}
 use Rattle.report.specs.Programs.{digits, decimal, rest, acceptedWord, acceptedLine, summary, orRefusedLine, checkLine, readOrder, planInput, plannedReply, planReply}
 use Rattle.report.specs.Replies.{planSlices, checkInto, planInto}
 
--- "`check` prints `accepted 5 9 3 7 4 4`"; `plan` with the numbers 2 3 9 and then P writes the whole file
-pub lines : (checkLine (placementFile 5) ≡ acceptedWord ++ (32 ∷ 53 ∷ 32 ∷ 57 ∷ 32 ∷ 51 ∷ 32 ∷ 55 ∷ 32 ∷ 52 ∷ 32 ∷ 52 ∷ 10 ∷ []))
-    × (planReply (2 ∷ 3 ∷ 9 ∷ packBytes row245) ≡ placementFile 5)
+-- "`check` prints `accepted 5 9 3 7 4 4`", for kind 2 and for kind 3; `plan` with the numbers 2 3 9 and then P writes the whole
+-- file, of kind 3
+pub lines : (checkLine (placementFile 2 5) ≡ acceptedWord ++ (32 ∷ 53 ∷ 32 ∷ 57 ∷ 32 ∷ 51 ∷ 32 ∷ 55 ∷ 32 ∷ 52 ∷ 32 ∷ 52 ∷ 10 ∷ []))
+    × (checkLine (placementFile 3 5) ≡ acceptedWord ++ (32 ∷ 53 ∷ 32 ∷ 57 ∷ 32 ∷ 51 ∷ 32 ∷ 55 ∷ 32 ∷ 52 ∷ 32 ∷ 52 ∷ 10 ∷ []))
+    × (planReply (2 ∷ 3 ∷ 9 ∷ packBytes row245) ≡ placementFile 3 5)
 unfolding count largest upTo flatten member readGroups readNumber packBytes sevenPlacement halfToEven digits decimal rest summary checkLine readOrder planInput plannedReply planReply
 lines = (
   ap (λ a. orRefusedLine (mapAccepted (λ p. acceptedLine (summary p)) a)) (placements .1),
+  ap (λ a. orRefusedLine (mapAccepted (λ p. acceptedLine (summary p)) a)) (placements-of-kind-3 .0),
   ap plannedReply (orders .6) ∙ orders .7,
 )
 

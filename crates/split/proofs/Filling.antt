@@ -13,6 +13,7 @@ use Rattle.lists.proofs.Stores.{drop-sets-ge, take-drop-sets}
 use Rattle.lists.proofs.UpTo.{map-upTo-congr}
 use Rattle.layers.specs.declared.LayerHead.{LayerHead}
 use Rattle.placement.specs.declared.Order.{Order}
+use Rattle.placement.specs.declared.Rule.the-variants.{NestedFloors}
 use Rattle.split.specs.declared.Steps.{Steps}
 use Rattle.split.specs.Splits.{leastLoss}
 use Rattle.split.specs.Table.{Limits, stepsOf, lineEntry, tableLine}
@@ -20,7 +21,7 @@ use Rattle.split.proofs.LeastLoss.{leastLoss-zero-zero}
 use Rattle.split.proofs.Bounds.{leastLoss-zero-pos}
 use Rattle.split.proofs.TableLines.{length-tableLine, rising-tableLine, lineAbove-tableLine}
 use Rattle.split.proofs.LayerSteps.{lossOf-steps, steps-limits}
-use Rattle.split.proofs.Stepped.{lineAbove-steps}
+use Rattle.split.proofs.LineSteps.{lineAbove-steps}
 use Rattle.split.specs.Working.{part, lossBelow, LineBelow, Filled, Tabled}
 use Rattle.split.proofs.Parts.{part-sets-before}
 
@@ -62,9 +63,9 @@ module _ (layers : List LayerHead) (s k w : ℕ) where
       go y (inr l) = part-sets-before line work (x * w) (y * w) w (line-end x w y l) ∙ f .lines y l
 
   -- line 0
-  lossBelow-eq : (b : ℕ) → lossBelow b ≡ leastLoss layers s k 0 b
-  lossBelow-eq zero = sym (leastLoss-zero-zero layers s k)
-  lossBelow-eq (suc b) = let e = leastLoss-zero-pos layers s k (suc b) (omega arith) in omega arith
+  lossBelow-eq : (b : ℕ) → lossBelow b ≡ leastLoss NestedFloors layers s k 0 b
+  lossBelow-eq zero = sym (leastLoss-zero-zero NestedFloors layers s k)
+  lossBelow-eq (suc b) = let e = leastLoss-zero-pos NestedFloors layers s k (suc b) (omega arith) in omega arith
 
   filled-none : (work : List ℕ) → Filled layers s k w 0 work work
   filled-none work = record { same-length = refl; lines = λ y h. absurd (not-suc-le-zero h); rest = refl }
@@ -141,7 +142,7 @@ module _ {layers : List LayerHead} {order : Order} (limits : Limits layers order
           let n = length-tableLine layers (order .s) (order .k) w (x - 1) in
           let small : length below ≤ 4_097 = let h = limits .b-le in omega arith in
           let rises = rising-tableLine layers (order .s) (order .k) w (x - 1) in
-          let agree = lossOf-steps layers (order .s) (order .k) (x - 1) in
+          let agree = lossOf-steps layers (order .s) (order .k) (x - 1) (omega arith) (limits .s-le) in
           let steps = lineAbove-steps _ _ agree below (steps-limits layers order (x - 1) limits (omega arith)) rises small in
           let next = lineAbove-tableLine layers (order .s) (order .k) w (x - 1) in
           rw (e, line-under) ((rw n at (sym steps ∙ next)) ∙ ap (tableLine layers (order .s) (order .k) w) q)

@@ -10,6 +10,7 @@ use Rattle.lists.specs.Lists.{total}
 use Rattle.lists.proofs.UpTo.{map-upTo-suc, length-map-upTo, map-upTo-congr}
 use Rattle.layers.specs.Layers.{sizes}
 use Rattle.layers.specs.declared.LayerHead.{LayerHead}
+use Rattle.placement.specs.declared.Rule.{Rule}
 use Rattle.placement.specs.Figure.{loss, losses}
 use Rattle.split.specs.Splits.{Share, Split, layerAt, shareHead, splitHeads}
 use Rattle.split.proofs.Losses.{losses-append, sizes-append}
@@ -29,13 +30,13 @@ module _ (layers : List LayerHead) where
       ∙ sizes-append (splitHeads layers x split) (shareHead (layerAt layers x) (split x) ∷ [])
       ∙ omega arith
 
-  pub losses-suc : (s k x : ℕ) (split : ℕ → Share)
-      → losses s k 0 (splitHeads layers (suc x) split) ≡ losses s k 0 (splitHeads layers x split) + loss s k x
+  pub losses-suc : (rule : Rule) (s k x : ℕ) (split : ℕ → Share)
+      → losses rule s k 0 (splitHeads layers (suc x) split) ≡ losses rule s k 0 (splitHeads layers x split) + loss rule s k x
       (shareHead (layerAt layers x) (split x))
   unfolding losses
-  losses-suc s k x split =
-      ap (losses s k 0) (splitHeads-suc x split)
-      ∙ losses-append s k 0 (splitHeads layers x split) (shareHead (layerAt layers x) (split x) ∷ [])
+  losses-suc rule s k x split =
+      ap (losses rule s k 0) (splitHeads-suc x split)
+      ∙ losses-append rule s k 0 (splitHeads layers x split) (shareHead (layerAt layers x) (split x) ∷ [])
       ∙ (let e : 0 + length (splitHeads layers x split) ≡ x = zero-add _ ∙ length-splitHeads x split in rw e (omega arith))
 
   -- splits that agree below x have the same heads

@@ -1,55 +1,127 @@
--- A layer's losses in steps: they are those of the definition, within the limits, and with products that fit. Assumes nothing.
-use Prim.Native.Nat.{ℕ, suc, _+_, _*_, _/_, _≤_, _<_, _^_, min}
-use native.Mathlib.Nat.{le-of-lt, lt-of-le-of-lt, mul-le-mul, mul-assoc, mul-one, eq-zero-or-pos}
-use native.Mathlib.Numerals.{add-one}
+-- A layer's losses in steps: they are those of the definition, and within the limits. Assumes nothing.
+use Prim.Native.Nat.{ℕ, suc, _+_, _*_, _%_, _≤_, _<_, _^_, min}
+use native.Mathlib.Nat.{le-refl, le-trans, lt-of-le-of-lt, mul-le-mul, mul-le-mul-right, mul-one, mod-lt, eq-zero-or-pos, pow-le-pow-left, pow-le-pow-right}
 use native.Mathlib.Omega.{arith}
-use mathlib.Core.Path.{_≡_, refl, sym, ap₂, _∙_}
+use mathlib.Core.Path.{_≡_, refl, sym, ap, ap₂, _∙_}
 use mathlib.Core.Logic.{_⊎_, inl, inr}
-use mathlib.Core.List.{List}
+use mathlib.Core.List.{List, map}
+use lib.ListN.{getD, replicate, List·getD-append}
+use lib.Seq.{length-sets}
 use lib.Dec.{lit<}
 use borrow.Author.Tests.{eq-eqb, ne-eqb}
-use Rattle.binomial.specs.Choose.{choose}
-use Rattle.binomial.proofs.Laws.{choose-positive, choose-lt-of-le-254}
+use Rattle.lists.specs.Lists.{upTo}
+use Rattle.lists.proofs.Stores.{sets-start}
+use Rattle.lists.proofs.UpTo.{length-map-upTo, getD-map-upTo}
+use Rattle.packing.specs.Floors.{falling}
+use Rattle.packing.proofs.Growth.{floorsDown-zero, floorsDown-mono, floorsDown-mul-le, floorsDown-period, floorsDown-le, falling-pos, falling-le-120}
 use Rattle.layers.specs.declared.LayerHead.{LayerHead}
-use Rattle.placement.specs.Figure.{loss}
+use Rattle.placement.specs.Figure.{lostBy, loss}
 use Rattle.placement.specs.declared.Order.{Order}
+use Rattle.placement.specs.declared.Rule.the-variants.{NestedFloors}
 use Rattle.split.specs.declared.Steps.{Steps}
 use Rattle.split.specs.Splits.{layerAt, copiesFor, noSplit, lossOf}
-use Rattle.split.specs.Table.{stepsOf, stepLoss, StepLimits, Limits}
+use Rattle.split.specs.Table.{costsOf, stepsBy, copiesLose, stepsOf, copiesCost, stepLoss, StepLimits, Limits}
 use Rattle.split.proofs.LossOf.{lossOf-zero, lossOf-blocks, lossOf-no-blocks}
+use Rattle.split.proofs.Periods.{Repeating, cost-parts}
+
+-- the array has the costs up to the period
+getD-costsOf : (cost : ℕ → ℕ) (period d : ℕ) → period ≤ 120 → d ≤ period → getD (costsOf cost period) d 0 ≡ cost d
+getD-costsOf cost period d h l =
+    let n = length-map-upTo cost (suc period) in
+    ap (λ (c : List ℕ). getD c d 0) (sets-start (replicate 121 0) (map cost (upTo (suc period))) (rw n (omega arith)))
+    ∙ List·getD-append (map cost (upTo (suc period))) _ 0 d (rw n (omega arith))
+    ∙ getD-map-upTo cost (suc period) d 0 (omega arith)
+
+module _ {cost : ℕ → ℕ} {period : ℕ} (r : Repeating cost period) (few : period ≤ 120) (size each : ℕ) where
+  copiesCost-stepsBy : (d : ℕ) → copiesCost (stepsBy size each cost period) d ≡ cost d
+  copiesCost-stepsBy d =
+      let l = mod-lt d (r .some) in
+      rw (getD-costsOf cost period period few (le-refl period), getD-costsOf cost period (d % period) few (omega arith))
+      (sym (cost-parts r d))
+
+  limits-stepsBy : 0 < size → size ≤ 4_096 → each ≤ noSplit → ((d : ℕ) → d * cost 1 ≤ cost d) → cost period < 2 ^ 60
+      → ((d : ℕ) → d ≤ 4_096 → cost d < 2 ^ 64) → StepLimits (stepsBy size each cost period)
+  limits-stepsBy pos most each-le single small fits =
+      record {
+        size-pos = pos;
+        size-le = most;
+        each-le = each-le;
+        period-pos = r .some;
+        period-le = few;
+        room = length-sets (replicate 121 0) 0 (map cost (upTo (suc period)));
+        none = getD-costsOf cost period 0 few (omega arith) ∙ r .none;
+        rising = λ i j h l.
+            rw (getD-costsOf cost period i few (le-trans h l), getD-costsOf cost period j few l) (r .rising i j h);
+        single = λ d. rw (getD-costsOf cost period 1 few (r .some), copiesCost-stepsBy d) (single d);
+        small = rw (getD-costsOf cost period period few (le-refl period)) small;
+        fits = λ d h. rw (copiesCost-stepsBy d) (fits d h);
+      }
+
+-- the mark a copy
+marks-repeat : Repeating (λ d. d * noSplit) 1
+marks-repeat =
+    record {
+      some = omega arith;
+      none = omega arith;
+      rising = λ a b h. mul-le-mul-right noSplit h;
+      repeats = λ d. omega arith;
+    }
+
+-- the losses of copies, by the nested floors
+module _ (s k x bound : ℕ) where
+  lose-repeat : x < s → Repeating (copiesLose s k x bound) (falling s x)
+  unfolding lostBy
+  lose-repeat h =
+      record {
+        some = falling-pos s x h;
+        none = let e : 0 * bound ≡ 0 = omega arith in rw e (floorsDown-zero k s x);
+        rising = λ a b l. floorsDown-mono k s x _ _ (mul-le-mul-right bound l);
+        repeats = λ d.
+            let e : (d + falling s x) * bound ≡ d * bound + bound * falling s x = omega arith in
+            let q : falling s x * bound ≡ 0 + bound * falling s x = omega arith in
+            let z = floorsDown-zero k s x in
+            rw (e, q, floorsDown-period k s x (d * bound) bound h, floorsDown-period k s x 0 bound h) (omega arith);
+      }
+
+  lose-single : (d : ℕ) → d * copiesLose s k x bound 1 ≤ copiesLose s k x bound d
+  unfolding lostBy
+  lose-single d = let e : 1 * bound ≡ bound = omega arith in rw e (floorsDown-mul-le k s x bound d)
+
+  -- d copies lose less than 64 bits hold
+  lose-le : (d most : ℕ) → x < 5 → k ≤ 254 → bound ≤ 4_096 → d ≤ most → copiesLose s k x bound d ≤ most * 4_096 * 254 ^ 5
+  unfolding lostBy
+  lose-le d most few h g l =
+      let p = le-trans (pow-le-pow-left h (suc x)) (pow-le-pow-right {n = 254} (omega arith) few) in
+      le-trans (floorsDown-le k s x (d * bound)) (mul-le-mul (mul-le-mul l g) p)
 
 module _ (layers : List LayerHead) (s k x : ℕ) where
-  -- the steps of layer x, without a block and with the binomials looked up
-  pub steps-no-blocks : layerAt layers x .size ≡ 0
-      → _≡_ {A = Steps} (record { size = 4_096; each = noSplit; copy = noSplit; lost = 1 }) (stepsOf layers s k x)
+  -- the steps of layer x, without a block and with blocks
+  pub steps-no-blocks : layerAt layers x .size ≡ 0 → stepsOf layers s k x ≡ stepsBy 4_096 noSplit (λ d. d * noSplit) 1
   unfolding stepsOf
   steps-no-blocks e = rw (eq-eqb (layerAt layers x .size) 0 e) refl
 
-  pub steps-blocks : {above below : ℕ} → 0 < layerAt layers x .size → above ≡ choose k (x + 1) → below ≡ choose s (x + 1)
-      → _≡_ {A = Steps} (record { size = layerAt layers x .size; each = 1; copy = layerAt layers x .bound * above; lost = below })
-      (stepsOf layers s k x)
+  pub steps-blocks : 0 < layerAt layers x .size
+      → stepsOf layers s k x ≡ stepsBy (layerAt layers x .size) 1 (copiesLose s k x (layerAt layers x .bound)) (falling s x)
   unfolding stepsOf
-  steps-blocks p e g = rw (ne-eqb (layerAt layers x .size) 0 (λ z. omega arith), e, g, add-one x) refl
+  steps-blocks p = rw (ne-eqb (layerAt layers x .size) 0 (λ z. omega arith)) refl
 
   -- what c records lose
-  pub lossOf-steps : (c : ℕ) → c ≤ 4_096 → lossOf layers s k x c ≡ stepLoss (stepsOf layers s k x) c
+  pub lossOf-steps : x < s → s ≤ 5 → (c : ℕ) → c ≤ 4_096 → lossOf NestedFloors layers s k x c ≡ stepLoss (stepsOf layers s k x) c
   unfolding loss
-  lossOf-steps c h = go (eq-zero-or-pos (layerAt layers x .size)) (eq-zero-or-pos c)
+  lossOf-steps below few c h = go (eq-zero-or-pos (layerAt layers x .size)) (eq-zero-or-pos c)
     where
       go : (layerAt layers x .size ≡ 0) ⊎ (0 < layerAt layers x .size) → (c ≡ 0) ⊎ (0 < c)
-          → lossOf layers s k x c ≡ stepLoss (stepsOf layers s k x) c
+          → lossOf NestedFloors layers s k x c ≡ stepLoss (stepsOf layers s k x) c
       go (inr p) z =
-          lossOf-blocks layers s k x c p
-          ∙ rw (← steps-blocks p refl refl, add-one x)
-          (ap₂ (λ a b. min a (b / choose s (suc x))) (sym (mul-one c)) (mul-assoc (copiesFor c (layerAt layers x .size)) _ _))
-      go (inl e) (inl z) = rw (z, ← steps-no-blocks e) (lossOf-zero layers s k x ∙ omega arith)
-      go (inl e) (inr p) = lossOf-no-blocks layers s k x c e p ∙ rw (← steps-no-blocks e) (omega arith)
-
--- a copy's cost fits
-pub copy-lt : (k x bound : ℕ) {above : ℕ} → bound ≤ 4_096 → x < 5 → k ≤ 254 → above ≡ choose k (x + 1) → bound * above < 2 ^ 46
-copy-lt k x bound {above} h l most e =
-    let g : above < 2 ^ 33 = rw (e, add-one x) (choose-lt-of-le-254 k (suc x) most (omega arith)) in
-    lt-of-le-of-lt (mul-le-mul h (le-of-lt g)) (lit< tt)
+          lossOf-blocks NestedFloors layers s k x c p
+          ∙ rw (steps-blocks p)
+          (ap₂ min (sym (mul-one c))
+          (sym (copiesCost-stepsBy (lose-repeat s k x _ below) (falling-le-120 s x few (omega arith)) (layerAt layers x .size) 1 _)))
+      go (inl e) (inl z) = rw (z, steps-no-blocks e) (lossOf-zero NestedFloors layers s k x ∙ omega arith)
+      go (inl e) (inr p) =
+          lossOf-no-blocks NestedFloors layers s k x c e p
+          ∙ rw (steps-no-blocks e)
+          (let q = copiesCost-stepsBy marks-repeat (omega arith) 4_096 noSplit (copiesFor c 4_096) in omega arith)
 
 pub steps-limits : (layers : List LayerHead) (order : Order) (x : ℕ) → Limits layers order → x < order .s
     → StepLimits (stepsOf layers (order .s) (order .k) x)
@@ -58,37 +130,22 @@ steps-limits layers order x limits h = go (eq-zero-or-pos (layerAt layers x .siz
     few : x < 5
     few = let g = limits .s-le in omega arith
 
+    lose : (d most : ℕ) → d ≤ most → copiesLose (order .s) (order .k) x (layerAt layers x .bound) d ≤ most * 4_096 * 254 ^ 5
+    lose d most l = lose-le (order .s) (order .k) x _ d most few (limits .k-le) (limits .mu-le x) l
+
     go : (layerAt layers x .size ≡ 0) ⊎ (0 < layerAt layers x .size) → StepLimits (stepsOf layers (order .s) (order .k) x)
     go (inl e) =
-        rw (← steps-no-blocks layers (order .s) (order .k) x e)
-        (record {
-          size-pos = omega arith;
-          size-le = omega arith;
-          each-le = omega arith;
-          copy-lt = omega arith;
-          lost-pos = omega arith;
-          lost-lt = omega arith;
-        })
+        rw (steps-no-blocks layers (order .s) (order .k) x e)
+        (limits-stepsBy marks-repeat (omega arith) 4_096 noSplit (omega arith) (omega arith) (omega arith)
+        (λ d. omega arith) (lit< tt) (λ d l. omega arith))
     go (inr p) =
-        let g = limits .s-le-k in
-        let l = limits .k-le in
-        rw (← steps-blocks layers (order .s) (order .k) x p refl refl)
-        (record {
-          size-pos = p;
-          size-le = limits .m-le x;
-          each-le = omega arith;
-          copy-lt = copy-lt (order .k) x (layerAt layers x .bound) (limits .mu-le x) few l refl;
-          lost-pos = rw add-one (choose-positive (order .s) (suc x) h);
-          lost-lt = rw add-one (choose-lt-of-le-254 (order .s) (suc x) (omega arith) (omega arith));
-        })
+        let period-le = falling-le-120 (order .s) x (limits .s-le) few in
+        rw (steps-blocks layers (order .s) (order .k) x p)
+        (limits-stepsBy (lose-repeat (order .s) (order .k) x _ h) period-le _ 1 p (limits .m-le x) (omega arith)
+        (lose-single (order .s) (order .k) x _)
+        (lt-of-le-of-lt (lose _ 120 period-le) (lit< tt))
+        (λ d l. lt-of-le-of-lt (lose d 4_096 l) (lit< tt)))
 
--- no product wraps
-module _ (u : Steps) (limits : StepLimits u) where
-  pub copies-lt : (n : ℕ) → n ≤ 4_097 → n * u .copy < 2 ^ 64
-  copies-lt n h = lt-of-le-of-lt (mul-le-mul h (le-of-lt (limits .copy-lt))) (lit< tt)
-
-  pub records-lt : (n : ℕ) → n ≤ 4_097 → n * u .each < 2 ^ 26
-  records-lt n h = lt-of-le-of-lt (mul-le-mul h (limits .each-le)) (lit< tt)
-
-  pub scaled-lt : (n : ℕ) → n ≤ noSplit → u .lost * n < 2 ^ 47
-  scaled-lt n h = lt-of-le-of-lt (mul-le-mul (le-of-lt (limits .lost-lt)) h) (lit< tt)
+-- no product of records wraps
+pub records-lt : {u : Steps} → StepLimits u → (n : ℕ) → n ≤ 4_097 → n * u .each < 2 ^ 26
+records-lt limits n h = lt-of-le-of-lt (mul-le-mul h (limits .each-le)) (lit< tt)

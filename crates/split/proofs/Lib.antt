@@ -9,9 +9,11 @@ pub mod LeastLoss
 pub mod NamedCounts
 pub mod Named
 pub mod Bounds
-pub mod LayerSteps
 pub mod TableLines
+pub mod Periods
+pub mod LayerSteps
 pub mod Stepped
+pub mod LineSteps
 pub mod Arrays
 pub mod Parts
 pub mod Filling

@@ -8,6 +8,7 @@ use mathlib.Core.List.{List}
 use lib.ListN.{getD}
 use lib.Dec.{T}
 use Rattle.layers.specs.declared.LayerHead.{LayerHead}
+use Rattle.placement.specs.declared.Rule.{Rule}
 use Rattle.placement.specs.Figure.{losses, figureOf}
 use Rattle.split.specs.Splits.{Share, Split, Named, Foremost, layerAt, splitHeads, splitFigure, noSplit, leastLoss, namedCounts, namedSplit, hasBlock}
 use Rattle.split.proofs.Copies.{copiesFor-least}
@@ -16,54 +17,54 @@ use Rattle.split.proofs.LeastLoss.{leastLoss-le-losses, leastLoss-le-se
 use Rattle.split.proofs.NamedCounts.{namedBelow-split, namedBelow-losses, namedBelow-foremost}
 
 -- a split loses at most its records
-pub losses-le-split : (layers : List LayerHead) (s k b : ℕ) (split : ℕ → Share) → Split layers s b split
-    → losses s k 0 (splitHeads layers s split) ≤ b
-losses-le-split layers s k b split h =
-    let g = losses-le-sizes s k 0 (splitHeads layers s split) in
+pub losses-le-split : (rule : Rule) (layers : List LayerHead) (s k b : ℕ) (split : ℕ → Share) → Split layers s b split
+    → losses rule s k 0 (splitHeads layers s split) ≤ b
+losses-le-split rule layers s k b split h =
+    let g = losses-le-sizes rule s k 0 (splitHeads layers s split) in
     let e = h .sum in
     omega arith
 
-module _ (layers : List LayerHead) (s k b : ℕ) (small : b ≤ 4_096) (block : T (hasBlock layers s)) where
+module _ (rule : Rule) (layers : List LayerHead) (s k b : ℕ) (small : b ≤ 4_096) (block : T (hasBlock layers s)) where
   -- with a block below s the least loss is that of a split
-  pub leastLoss-lt-noSplit : leastLoss layers s k s b < noSplit
-  leastLoss-lt-noSplit = let h = leastLoss-le-self layers s k s b block in omega arith
+  pub leastLoss-lt-noSplit : leastLoss rule layers s k s b < noSplit
+  leastLoss-lt-noSplit = let h = leastLoss-le-self rule layers s k s b block in omega arith
 
   -- "with c at most d × m and the counts summing to b"
-  pub namedSplit-is-split : Split layers s b (namedSplit layers s k b)
+  pub namedSplit-is-split : Split layers s b (namedSplit rule layers s k b)
   unfolding namedSplit
-  namedSplit-is-split = namedBelow-split layers s k s b leastLoss-lt-noSplit
+  namedSplit-is-split = namedBelow-split rule layers s k s b leastLoss-lt-noSplit
 
-  pub namedSplit-losses : losses s k 0 (splitHeads layers s (namedSplit layers s k b)) ≡ leastLoss layers s k s b
+  pub namedSplit-losses : losses rule s k 0 (splitHeads layers s (namedSplit rule layers s k b)) ≡ leastLoss rule layers s k s b
   unfolding namedSplit
-  namedSplit-losses = namedBelow-losses layers s k s b leastLoss-lt-noSplit
+  namedSplit-losses = namedBelow-losses rule layers s k s b leastLoss-lt-noSplit
 
   -- "the splits with the highest figure"
   pub named-highest : (other : ℕ → Share) → Split layers s b other
-      → splitFigure layers s k b other ≤ splitFigure layers s k b (namedSplit layers s k b)
+      → splitFigure rule layers s k b other ≤ splitFigure rule layers s k b (namedSplit rule layers s k b)
   unfolding figureOf
   named-highest other h =
       let e = namedSplit-losses in
-      let g = leastLoss-le-losses layers s k s b other h in
+      let g = leastLoss-le-losses rule layers s k s b other h in
       omega arith
 
   -- "the largest c in layer s-1, then in layer s-2, down to 0"
   pub named-foremost : (other : ℕ → Share) → Split layers s b other
-      → splitFigure layers s k b other ≡ splitFigure layers s k b (namedSplit layers s k b)
-      → Foremost s (namedSplit layers s k b) other
+      → splitFigure rule layers s k b other ≡ splitFigure rule layers s k b (namedSplit rule layers s k b)
+      → Foremost s (namedSplit rule layers s k b) other
   unfolding figureOf namedSplit
   named-foremost other h same =
-      let e = namedBelow-losses layers s k s b leastLoss-lt-noSplit in
-      let g = losses-le-split layers s k b other h in
-      let l = leastLoss-le-self layers s k s b block in
-      namedBelow-foremost layers s k s b other h (omega arith)
+      let e = namedBelow-losses rule layers s k s b leastLoss-lt-noSplit in
+      let g = losses-le-split rule layers s k b other h in
+      let l = leastLoss-le-self rule layers s k s b block in
+      namedBelow-foremost rule layers s k s b other h (omega arith)
 
   -- "with the least d for each c"
-  pub named-least-copies : (x d : ℕ) → x < s → namedSplit layers s k b x .count ≤ d * layerAt layers x .size → namedSplit layers s k b x .copies ≤ d
+  pub named-least-copies : (x d : ℕ) → x < s → namedSplit rule layers s k b x .count ≤ d * layerAt layers x .size → namedSplit rule layers s k b x .copies ≤ d
   unfolding namedSplit
-  named-least-copies x d h g = copiesFor-least (getD (namedCounts layers s k s b) x 0) (layerAt layers x .size) d g
+  named-least-copies x d h g = copiesFor-least (getD (namedCounts rule layers s k s b) x 0) (layerAt layers x .size) d g
 
   -- the computed split is the one that document 01 names
-  pub named : Named layers s k b (namedSplit layers s k b)
+  pub named : Named rule layers s k b (namedSplit rule layers s k b)
   named =
       record {
         is-split = namedSplit-is-split;
@@ -89,16 +90,16 @@ share-ext : (p q : Share) → p .count ≡ q .count → p .copies ≡ q .copies 
 share-ext p q e f = ap₂ {C = Share} (λ c d. record { count = c; copies = d }) e f
 
 -- the least copies for the same count, each held by the other's
-copies-le : (layers : List LayerHead) (s k b : ℕ) (a a′ : ℕ → Share) → Named layers s k b a → Split layers s b a′ → (x : ℕ) → x < s
+copies-le : (rule : Rule) (layers : List LayerHead) (s k b : ℕ) (a a′ : ℕ → Share) → Named rule layers s k b a → Split layers s b a′ → (x : ℕ) → x < s
     → a x .count ≡ a′ x .count → a x .copies ≤ a′ x .copies
-copies-le layers s k b a a′ n h x l e = n .least-copies x (a′ x .copies) l (rw e (h .held x l))
+copies-le rule layers s k b a a′ n h x l e = n .least-copies x (a′ x .copies) l (rw e (h .held x l))
 
 -- document 01 names one split
-pub named-unique : (layers : List LayerHead) (s k b : ℕ) (a a′ : ℕ → Share) → Named layers s k b a → Named layers s k b a′ → (x : ℕ)
+pub named-unique : (rule : Rule) (layers : List LayerHead) (s k b : ℕ) (a a′ : ℕ → Share) → Named rule layers s k b a → Named rule layers s k b a′ → (x : ℕ)
     → x < s → a x ≡ a′ x
-named-unique layers s k b a a′ n n′ x h =
+named-unique rule layers s k b a a′ n n′ x h =
     let same = le-antisymm (n .highest a′ (n′ .is-split)) (n′ .highest a (n .is-split)) in
     let e = foremost-antisymm s a a′ (n .foremost a′ (n′ .is-split) same) (n′ .foremost a (n .is-split) (sym same)) x h in
-    let p = copies-le layers s k b a a′ n (n′ .is-split) x h e in
-    let q = copies-le layers s k b a′ a n′ (n .is-split) x h (sym e) in
+    let p = copies-le rule layers s k b a a′ n (n′ .is-split) x h e in
+    let q = copies-le rule layers s k b a′ a n′ (n .is-split) x h (sym e) in
     share-ext (a x) (a′ x) e (le-antisymm p q)

@@ -1,15 +1,13 @@
 -- Parts of a working slice, and entries that are stored in it one after another. Assumes nothing.
 use Prim.Native.Nat.{ℕ, _+_, _-_, _≤_, _<_}
-use native.Mathlib.Numerals.{add-one}
 use native.Mathlib.Omega.{arith}
 use mathlib.Core.Path.{_≡_, refl, sym, ap, _∙_}
-use mathlib.Core.List.{List, [], _∷_, map}
-use lib.ListN.{length, getD, take, drop, set}
-use lib.Seq.{sets, length-sets, getD-take, getD-drop}
+use mathlib.Core.List.{List, map}
+use lib.ListN.{getD, take, drop}
+use lib.Seq.{sets, getD-take, getD-drop}
 use Rattle.lists.specs.Lists.{upTo}
 use Rattle.lists.proofs.Parts.{slice-eq-take-drop}
-use Rattle.lists.proofs.Stores.{sets-append, take-sets-le}
-use Rattle.lists.proofs.UpTo.{map-upTo-suc, length-map-upTo}
+use Rattle.lists.proofs.Stores.{take-sets-le, storedTo}
 use Rattle.split.specs.Working.{part}
 
 getD-part : (a k : ℕ) (l : List ℕ) (i : ℕ) → i < k → getD (part a k l) i 0 ≡ getD l (a + i) 0
@@ -26,29 +24,14 @@ pub part-sets-before : (ys l : List ℕ) (at a k : ℕ) → a + k ≤ at → par
 part-sets-before ys l at a k h =
     part-of-take a k (sets l at ys) ∙ ap (drop a) (take-sets-le ys l at (a + k) h) ∙ sym (part-of-take a k l)
 
--- the entries f 0, f 1, .. stored from place `at` on
-module _ (at : ℕ) (l : List ℕ) (f : ℕ → ℕ) where
-  abbrev pub storedTo : (i : ℕ) → List ℕ
-  storedTo i = sets l at (map f (upTo i))
-
-  pub stored-none : l ≡ storedTo 0
-  unfolding upTo
-  stored-none = refl
-
-  pub length-stored : (i : ℕ) {work : List ℕ} → work ≡ storedTo i → length work ≡ length l
-  length-stored i e = rw e (length-sets l at (map f (upTo i)))
-
-  -- what stands before is as it was
-  getD-before : (i j : ℕ) {work : List ℕ} → work ≡ storedTo i → j < at → getD work j 0 ≡ getD l j 0
-  getD-before i j e h =
-      rw e
-      (sym (getD-take at (storedTo i) j 0 h)
-      ∙ ap (λ (z : List ℕ). getD z j 0) (take-sets-le (map f (upTo i)) l at at (omega arith))
-      ∙ getD-take at l j 0 h)
-
-  pub stored-next : (i v : ℕ) {work : List ℕ} → work ≡ storedTo i → v ≡ f i → set work (at + i) v ≡ storedTo (i + 1)
-  stored-next i v e q =
-      rw (e, q, add-one i, map-upTo-suc f i, sets-append l at (map f (upTo i)) (f i ∷ []), length-map-upTo f i) refl
+-- entries stored from place `at` on leave what stands before it
+getD-before : (at : ℕ) (l : List ℕ) (f : ℕ → ℕ) (i j : ℕ) {work : List ℕ} → work ≡ storedTo at l f i → j < at
+    → getD work j 0 ≡ getD l j 0
+getD-before at l f i j e h =
+    rw e
+    (sym (getD-take at (storedTo at l f i) j 0 h)
+    ∙ ap (λ (z : List ℕ). getD z j 0) (take-sets-le (map f (upTo i)) l at at (omega arith))
+    ∙ getD-take at l j 0 h)
 
 -- the entry below place i, which the entries written before it leave as it was
 pub under-eq : (at w : ℕ) (before : List ℕ) (f : ℕ → ℕ) (i : ℕ) {work : List ℕ} → w ≤ at → i < w → work ≡ storedTo at before f i

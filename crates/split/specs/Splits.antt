@@ -1,4 +1,4 @@
--- Document 01, "Planning": splits, and the one that is named. Of a pack's layers a split looks at mu and m alone. It is a
+-- Document 01, "Planning": splits, and the one that is named, by a rule of loss. Of a pack's layers a split looks at mu and m alone. It is a
 -- function of the layer's number x; only the layers below s count. Assumes nothing.
 use Prim.Native.Nat.{ℕ, zero, suc, _+_, _*_, _-_, _/_, _≤_, _<_, min}
 use mathlib.Core.Path.{_≡_}
@@ -11,6 +11,7 @@ use Rattle.lists.specs.Lists.{any, upTo}
 use Rattle.layers.specs.Answers.{noHead}
 use Rattle.layers.specs.Layers.{sizes}
 use Rattle.layers.specs.declared.LayerHead.{LayerHead}
+use Rattle.placement.specs.declared.Rule.{Rule}
 use Rattle.placement.specs.Figure.{loss, figureOf}
 
 -- mu and m of layer x; 0 and 0 where there is no such layer
@@ -40,8 +41,8 @@ pub record Split (layers : List LayerHead) (s b : ℕ) (split : ℕ → Share) :
   pub sum : sizes (splitHeads layers s split) ≡ b
 
 -- "Its figure is b less the losses."
-abbrev pub splitFigure : List LayerHead → (s k b : ℕ) → (ℕ → Share) → ℕ
-splitFigure layers s k b split = figureOf s k b (splitHeads layers s split)
+abbrev pub splitFigure : Rule → List LayerHead → (s k b : ℕ) → (ℕ → Share) → ℕ
+splitFigure rule layers s k b split = figureOf rule s k b (splitHeads layers s split)
 
 -- "the largest c in layer s-1, then in layer s-2, down to 0": the counts come no later than the other's
 abbrev pub Foremost : (s : ℕ) (split other : ℕ → Share) → Type 0
@@ -51,11 +52,11 @@ Foremost (suc x) split other =
 
 -- "Of the splits with the highest figure the planner takes the one with the largest c in layer s-1, then in layer s-2,
 -- down to 0, with the least d for each c."
-pub record Named (layers : List LayerHead) (s k b : ℕ) (split : ℕ → Share) : Type 0 where
+pub record Named (rule : Rule) (layers : List LayerHead) (s k b : ℕ) (split : ℕ → Share) : Type 0 where
   pub is-split : Split layers s b split
-  pub highest : (other : ℕ → Share) → Split layers s b other → splitFigure layers s k b other ≤ splitFigure layers s k b split
+  pub highest : (other : ℕ → Share) → Split layers s b other → splitFigure rule layers s k b other ≤ splitFigure rule layers s k b split
   pub foremost : (other : ℕ → Share) → Split layers s b other →
-      splitFigure layers s k b other ≡ splitFigure layers s k b split → Foremost s split other
+      splitFigure rule layers s k b other ≡ splitFigure rule layers s k b split → Foremost s split other
   pub least-copies : (x d : ℕ) → x < s → split x .count ≤ d * layerAt layers x .size → split x .copies ≤ d
 
 -- "the least d" for c records on m blocks; none for no records
@@ -74,10 +75,10 @@ abbrev pub noSplit : ℕ
 noSplit = 8_192
 
 -- what c records in layer x lose, with the least copies
-unfoldable pub lossOf : List LayerHead → (s k x c : ℕ) → ℕ
-lossOf layers s k x c =
+unfoldable pub lossOf : Rule → List LayerHead → (s k x c : ℕ) → ℕ
+lossOf rule layers s k x c =
     let layer = layerAt layers x in
-    cond (eqb (layer .size) 0 && ltb 0 c) noSplit (loss s k x (shareHead layer (shareOf layer c)))
+    cond (eqb (layer .size) 0 && ltb 0 c) noSplit (loss rule s k x (shareHead layer (shareOf layer c)))
 
 -- the least of f 0, .., f top
 unfoldable pub least : (ℕ → ℕ) → (top : ℕ) → ℕ
@@ -90,21 +91,21 @@ lastLeast f zero = zero
 lastLeast f (suc c) = cond (leb (f (suc c)) (least f c)) (suc c) (lastLeast f c)
 
 -- the least loss of b records in the layers below x
-unfoldable pub leastLoss : List LayerHead → (s k x b : ℕ) → ℕ
-leastLoss layers s k zero b = cond (eqb b 0) 0 noSplit
-leastLoss layers s k (suc x) b = least (λ c. lossOf layers s k x c + leastLoss layers s k x (b - c)) b
+unfoldable pub leastLoss : Rule → List LayerHead → (s k x b : ℕ) → ℕ
+leastLoss rule layers s k zero b = cond (eqb b 0) 0 noSplit
+leastLoss rule layers s k (suc x) b = least (λ c. lossOf rule layers s k x c + leastLoss rule layers s k x (b - c)) b
 
 -- the count of layer x, of b records in the layers up to x: the largest that leaves the least loss
-unfoldable pub bestCount : List LayerHead → (s k x b : ℕ) → ℕ
-bestCount layers s k x b = lastLeast (λ c. lossOf layers s k x c + leastLoss layers s k x (b - c)) b
+unfoldable pub bestCount : Rule → List LayerHead → (s k x b : ℕ) → ℕ
+bestCount rule layers s k x b = lastLeast (λ c. lossOf rule layers s k x c + leastLoss rule layers s k x (b - c)) b
 
 -- the counts of the layers below x that share b records, layer 0 first
-unfoldable pub namedCounts : List LayerHead → (s k x b : ℕ) → List ℕ
-namedCounts layers s k zero b = []
-namedCounts layers s k (suc x) b =
-    let c = bestCount layers s k x b in
-    namedCounts layers s k x (b - c) ++ (c ∷ [])
+unfoldable pub namedCounts : Rule → List LayerHead → (s k x b : ℕ) → List ℕ
+namedCounts rule layers s k zero b = []
+namedCounts rule layers s k (suc x) b =
+    let c = bestCount rule layers s k x b in
+    namedCounts rule layers s k x (b - c) ++ (c ∷ [])
 
 -- the named split, computed
-unfoldable pub namedSplit : List LayerHead → (s k b : ℕ) → ℕ → Share
-namedSplit layers s k b = countsSplit layers (namedCounts layers s k s b)
+unfoldable pub namedSplit : Rule → List LayerHead → (s k b : ℕ) → ℕ → Share
+namedSplit rule layers s k b = countsSplit layers (namedCounts rule layers s k s b)

@@ -1,15 +1,18 @@
 -- The planner's table as the code computes it: a layer's losses in steps, and one line from the line below it, by its
--- definition and by two rules that look at one earlier entry each. Assumes nothing.
-use Prim.Native.Nat.{ℕ, suc, _+_, _*_, _-_, _/_, _≤_, _<_, min}
+-- definition and by rules that look at a few earlier entries. Its losses are those of the nested floors. Assumes nothing.
+use Prim.Native.Nat.{ℕ, suc, _+_, _*_, _-_, _/_, _%_, _^_, _≤_, _<_, min}
 use mathlib.Core.Path.{_≡_}
 use mathlib.Core.Bool.{cond}
 use mathlib.Core.List.{List, map}
-use lib.ListN.{length, getD}
+use lib.ListN.{length, getD, replicate}
+use lib.Seq.{sets}
 use lib.Dec.{eqb}
 use Rattle.lists.specs.Lists.{upTo}
-use Rattle.binomial.specs.Choose.{choose}
+use Rattle.packing.specs.Floors.{falling}
 use Rattle.layers.specs.declared.LayerHead.{LayerHead}
 use Rattle.placement.specs.declared.Order.{Order}
+use Rattle.placement.specs.declared.Rule.the-variants.{NestedFloors}
+use Rattle.placement.specs.Figure.{lostBy}
 use Rattle.split.specs.declared.Steps.{Steps}
 use Rattle.split.specs.Splits.{layerAt, copiesFor, noSplit, least, leastLoss}
 
@@ -39,36 +42,69 @@ pub record Rising (line : List ℕ) : Type 0 where
 
 -- line x of the table: the least losses of 0, .., w - 1 records in the layers below x
 abbrev pub tableLine : List LayerHead → (s k w x : ℕ) → List ℕ
-tableLine layers s k w x = map (leastLoss layers s k x) (upTo w)
+tableLine layers s k w x = map (leastLoss NestedFloors layers s k x) (upTo w)
+
+-- what 0, .., `period` copies cost
+abbrev pub costsOf : (cost : ℕ → ℕ) (period : ℕ) → List ℕ
+costsOf cost period = sets (replicate 121 0) 0 (map cost (upTo (suc period)))
+
+abbrev pub stepsBy : (size each : ℕ) (cost : ℕ → ℕ) (period : ℕ) → Steps
+stepsBy size each cost period = record { size = size; each = each; period = period; costs = costsOf cost period }
+
+-- what d copies of layer x lose, by the nested floors: "its lambda is d × mu"
+abbrev pub copiesLose : (s k x bound : ℕ) → (d : ℕ) → ℕ
+copiesLose s k x bound d = lostBy NestedFloors s k x (d * bound)
 
 -- the losses of layer x in steps; in a layer without a block each record and each copy costs the mark
 unfoldable pub stepsOf : List LayerHead → (s k x : ℕ) → Steps
 stepsOf layers s k x =
     let layer = layerAt layers x in
     cond (eqb (layer .size) 0)
-    (record { size = 4_096; each = noSplit; copy = noSplit; lost = 1 })
-    (record { size = layer .size; each = 1; copy = layer .bound * choose k (suc x); lost = choose s (suc x) })
+    (stepsBy 4_096 noSplit (λ d. d * noSplit) 1)
+    (stepsBy (layer .size) 1 (copiesLose s k x (layer .bound)) (falling s x))
+
+-- what d copies cost: whole periods of them, and those that are left
+abbrev pub copiesCost : Steps → (d : ℕ) → ℕ
+copiesCost u d = d / u .period * getD (u .costs) (u .period) 0 + getD (u .costs) (d % u .period) 0
 
 -- what c records lose, as `lossOf`
 abbrev pub stepLoss : Steps → (c : ℕ) → ℕ
-stepLoss u c = min (c * u .each) (copiesFor c (u .size) * u .copy / u .lost)
+stepLoss u c = min (c * u .each) (copiesCost u (copiesFor c (u .size)))
 
--- the limits within which no product wraps
+-- what the code asks of steps: costs that begin at 0 and never fall, of which one copy's is the least a copy, and sums and
+-- products that fit
 pub record StepLimits (u : Steps) : Type 0 where
   pub size-pos : 0 < u .size
   pub size-le : u .size ≤ 4_096
   pub each-le : u .each ≤ noSplit
-  pub copy-lt : u .copy < 70_368_744_177_664
-  pub lost-pos : 0 < u .lost
-  pub lost-lt : u .lost < 8_589_934_592
+  pub period-pos : 0 < u .period
+  pub period-le : u .period ≤ 120
+  pub room : length (u .costs) ≡ 121
+  pub none : getD (u .costs) 0 0 ≡ 0
+  pub rising : (i j : ℕ) → i ≤ j → j ≤ u .period → getD (u .costs) i 0 ≤ getD (u .costs) j 0
+  pub single : (d : ℕ) → d * getD (u .costs) 1 0 ≤ copiesCost u d
+  pub small : getD (u .costs) (u .period) 0 < 2 ^ 60
+  pub fits : (d : ℕ) → d ≤ 4_096 → copiesCost u d < 2 ^ 64
 
--- `scale` times the loss of b records where the layer takes them `size` at a time, d times at `cost` / `scale`, and the least
-abbrev pub withSteps : (scale size cost : ℕ) (below : List ℕ) → (b d : ℕ) → ℕ
-withSteps scale size cost below b d = scale * getD below (b - d * size) 0 + d * cost
+-- the loss of b records where the layer takes them `size` at a time, d times at `cost`, and the least
+abbrev pub withSteps : (size cost : ℕ) (below : List ℕ) → (b d : ℕ) → ℕ
+withSteps size cost below b d = getD below (b - d * size) 0 + d * cost
 
-unfoldable pub stepped : (scale size cost : ℕ) (below : List ℕ) → (b : ℕ) → ℕ
-stepped scale size cost below b = least (withSteps scale size cost below b) b
+unfoldable pub stepped : (size cost : ℕ) (below : List ℕ) → (b : ℕ) → ℕ
+stepped size cost below b = least (withSteps size cost below b) b
 
--- an entry of the line above `below`: the layer's records cost one by one, or its copies do, with one floor at the end
+-- by whole periods of copies
+abbrev pub byPeriods : Steps → (below : List ℕ) → (b : ℕ) → ℕ
+byPeriods u below b = stepped (u .period * u .size) (getD (u .costs) (u .period) 0) below b
+
+-- what d copies of `size` blocks cost, with the entry of `line` for the other records
+abbrev pub withCopies : (costs line : List ℕ) (size b : ℕ) → (d : ℕ) → ℕ
+withCopies costs line size b d = getD costs d 0 + getD line (b - d * size) 0
+
+-- by any number of copies: fewer than a period, beside whole periods
+abbrev pub byCopies : Steps → (below : List ℕ) → (b : ℕ) → ℕ
+byCopies u below b = least (λ d. getD (u .costs) d 0 + byPeriods u below (b - d * u .size)) (u .period - 1)
+
+-- an entry of the line above `below`: the layer's records cost one by one, or its copies do
 abbrev pub lineEntry : Steps → (below : List ℕ) → (b : ℕ) → ℕ
-lineEntry u below b = min (stepped 1 1 (u .each) below b) (stepped (u .lost) (u .size) (u .copy) below b / u .lost)
+lineEntry u below b = min (stepped 1 (u .each) below b) (byCopies u below b)

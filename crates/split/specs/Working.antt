@@ -1,11 +1,12 @@
 -- The working slice: its parts, and the lines of the planner's table that stand in it. Assumes nothing.
-use Prim.Native.Nat.{ℕ, suc, _+_, _*_, _-_, _≤_, _<_, min}
+use Prim.Native.Nat.{ℕ, suc, _+_, _*_, _-_, _^_, _≤_, _<_, min}
 use mathlib.Core.Path.{_≡_}
 use mathlib.Core.List.{List}
-use lib.ListN.{length, take, drop}
+use lib.ListN.{length, getD, take, drop}
 use Rattle.layers.specs.Answers.{five}
 use Rattle.layers.specs.declared.LayerHead.{LayerHead}
 use Rattle.placement.specs.declared.Order.{Order}
+use Rattle.placement.specs.declared.Rule.the-variants.{NestedFloors}
 use Rattle.split.specs.declared.Steps.{Steps}
 use Rattle.split.specs.Splits.{noSplit, namedCounts}
 use Rattle.split.specs.Table.{Limits, StepLimits, Rising, tableLine}
@@ -24,6 +25,17 @@ pub record LineBelow (at w : ℕ) (work : List ℕ) : Type 0 where
   pub back : w ≤ at
   pub fits : at + w ≤ length work
   pub rising : Rising (part (at - w) w work)
+
+-- copies below the period beside an entry of `line`: the costs begin at 0 and never fall, the line begins at 0, and sums fit
+pub record CopiesOn (costs line : List ℕ) (size period b : ℕ) : Type 0 where
+  pub period-pos : 0 < period
+  pub period-le : period ≤ length costs
+  pub none : getD costs 0 0 ≡ 0
+  pub rising : (i j : ℕ) → i ≤ j → j < period → getD costs i 0 ≤ getD costs j 0
+  pub small : (d : ℕ) → d < period → getD costs d 0 < 2 ^ 60
+  pub first : getD line 0 0 ≡ 0
+  pub marked : (i : ℕ) → i ≤ b → getD line i 0 ≤ noSplit
+  pub within : b < length line
 
 -- a layer's steps, and the line below it, which has an entry for `left` records
 pub record Countable (u : Steps) (below : List ℕ) (left : ℕ) : Type 0 where
@@ -50,6 +62,6 @@ pub record Tabled (layers : List LayerHead) (order : Order) (work : List ℕ) : 
 
 -- the counts that are chosen, layer 0 first, and the working slice: only the entries of s lines are free
 pub record Chosen (layers : List LayerHead) (order : Order) (before after r : List ℕ) : Type 0 where
-  pub counts : r ≡ five 0 (namedCounts layers (order .s) (order .k) (order .s) (order .b))
+  pub counts : r ≡ five 0 (namedCounts NestedFloors layers (order .s) (order .k) (order .s) (order .b))
   pub same-length : length after ≡ length before
   pub rest : drop (order .s * suc (order .b)) after ≡ drop (order .s * suc (order .b)) before

@@ -10,6 +10,7 @@ use Rattle.lists.proofs.Parts.{take-replicate}
 use Rattle.layers.specs.Answers.{five}
 use Rattle.layers.specs.declared.LayerHead.{LayerHead}
 use Rattle.placement.specs.declared.Order.{Order}
+use Rattle.placement.specs.declared.Rule.the-variants.{NestedFloors}
 use Rattle.split.specs.Splits.{bestCount, namedCounts}
 use Rattle.split.specs.Table.{Limits}
 use Rattle.split.proofs.LeastLoss.{bestCount-le}
@@ -31,42 +32,42 @@ drop-set l i v h =
     drop-cons (set l i v) i 0 (omega arith) ∙ ap₂ _∷_ (getD-set-same l i v 0 h) (drop-set-lt (suc i) l i v (omega arith))
 
 -- one layer more
-namedCounts-suc-append : (layers : List LayerHead) (s k x left : ℕ) (l : List ℕ) → namedCounts layers s k (suc x) left ++ l
-    ≡ namedCounts layers s k x (left - bestCount layers s k x left) ++ (bestCount layers s k x left ∷ l)
+namedCounts-suc-append : (layers : List LayerHead) (s k x left : ℕ) (l : List ℕ) → namedCounts NestedFloors layers s k (suc x) left ++ l
+    ≡ namedCounts NestedFloors layers s k x (left - bestCount NestedFloors layers s k x left) ++ (bestCount NestedFloors layers s k x left ∷ l)
 namedCounts-suc-append layers s k x left l =
-    ap (λ (z : List ℕ). z ++ l) (namedCounts-suc layers s k x left)
-    ∙ append-assoc (namedCounts layers s k x (left - bestCount layers s k x left)) (bestCount layers s k x left ∷ []) l
+    ap (λ (z : List ℕ). z ++ l) (namedCounts-suc NestedFloors layers s k x left)
+    ∙ append-assoc (namedCounts NestedFloors layers s k x (left - bestCount NestedFloors layers s k x left)) (bestCount NestedFloors layers s k x left ∷ []) l
 
 -- the counts above layer x are chosen
 pub record Choosing (layers : List LayerHead) (order : Order) (x left : ℕ) (counts : List ℕ) : Type 0 where
   pub x-lt : x < order .s
   pub left-le : left ≤ order .b
   pub five-long : length counts ≡ 5
-  pub split : five 0 (namedCounts layers (order .s) (order .k) (order .s) (order .b))
-      ≡ namedCounts layers (order .s) (order .k) (suc x) left ++ drop (suc x) counts
+  pub split : five 0 (namedCounts NestedFloors layers (order .s) (order .k) (order .s) (order .b))
+      ≡ namedCounts NestedFloors layers (order .s) (order .k) (suc x) left ++ drop (suc x) counts
 
 module _ {layers : List LayerHead} {order : Order} (limits : Limits layers order) where
   pub choosing-none : Choosing layers order (order .s - 1) (order .b) (replicate 5 0)
   choosing-none =
       let h = limits .s-pos in
       let q : suc (order .s - 1) ≡ order .s = omega arith in
-      let n = length-namedCounts layers (order .s) (order .k) (order .s) (order .b) in
+      let n = length-namedCounts NestedFloors layers (order .s) (order .k) (order .s) (order .b) in
       record {
         x-lt = omega arith;
         left-le = omega arith;
         five-long = refl;
-        split = rw q (five-append (namedCounts layers (order .s) (order .k) (order .s) (order .b)) (order .s) n (limits .s-le));
+        split = rw q (five-append (namedCounts NestedFloors layers (order .s) (order .k) (order .s) (order .b)) (order .s) n (limits .s-le));
       }
 
   module _ {x left : ℕ} {counts : List ℕ} (f : Choosing layers order x left counts) where
-    pub count-le : {c : ℕ} → c ≡ bestCount layers (order .s) (order .k) x left → c ≤ left
-    count-le e = rw e (bestCount-le layers (order .s) (order .k) x left)
+    pub count-le : {c : ℕ} → c ≡ bestCount NestedFloors layers (order .s) (order .k) x left → c ≤ left
+    count-le e = rw e (bestCount-le NestedFloors layers (order .s) (order .k) x left)
 
     x-lt-5 : x < 5
     x-lt-5 = let h = limits .s-le in omega (arith, f .x-lt)
 
     -- the count of layer x is chosen
-    pub choosing-next : {c : ℕ} → 1 ≤ x → c ≡ bestCount layers (order .s) (order .k) x left
+    pub choosing-next : {c : ℕ} → 1 ≤ x → c ≡ bestCount NestedFloors layers (order .s) (order .k) x left
         → Choosing layers order (x - 1) (left - c) (set counts x c)
     choosing-next {c} h e =
         let below = f .x-lt in
@@ -86,13 +87,13 @@ module _ {layers : List LayerHead} {order : Order} (limits : Limits layers order
 
   -- layer 0 takes the rest
   pub choosing-all : {left : ℕ} {counts : List ℕ} → Choosing layers order 0 left counts
-      → set counts 0 left ≡ five 0 (namedCounts layers (order .s) (order .k) (order .s) (order .b))
+      → set counts 0 left ≡ five 0 (namedCounts NestedFloors layers (order .s) (order .k) (order .s) (order .b))
   unfolding namedCounts
   choosing-all {left} {counts} f =
       let fits = f .left-le in
       let small = limits .b-le in
       let l = f .five-long in
-      let e = bestCount-zero layers (order .s) (order .k) left (omega arith) in
+      let e = bestCount-zero NestedFloors layers (order .s) (order .k) left (omega arith) in
       sym
       (f .split
       ∙ namedCounts-suc-append layers (order .s) (order .k) 0 left (drop 1 counts)

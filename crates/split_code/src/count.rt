@@ -5,20 +5,22 @@ use placement::Order;
 use split::Steps;
 ghost use mathlib.Core.Path.{_≡_};
 ghost use Prim.Native.Nat.{_≤_, _<_};
+ghost use Rattle.placement.specs.declared.Rule.the-variants.{NestedFloors};
 ghost use Rattle.split.specs.Splits.{lastLeast, bestCount};
 ghost use Rattle.split.specs.Table.{sumAt, stepLoss};
 ghost use Rattle.split.specs.Working.{Countable, Tabled};
 
-// The largest count of the layer above `below` that leaves the least loss of `left` records. The loss of the copies changes
-// only where one more copy is taken.
+// The largest count of the layer above `below` that leaves the least loss of `left` records. What the copies cost changes
+// only where one more is taken: whole periods of them, and those that are left.
 fn best_count(below: &[u16], u: Steps, left: usize) -> usize
     requires { ⌜ Countable u (now below) left ⌝ }
     ensures { λ best. ⌜ best ≡ lastLeast (sumAt (stepLoss u) (now (below .entry)) left) left ⌝ }
 {
     let size = u.size;
     let each = u.each;
-    let copy = u.copy;
-    let lost = u.lost;
+    let period = u.period;
+    let costs = u.costs;
+    let whole = costs[period];
     let mut best: usize = 0;
     let mut least = below[left] as usize;
     let mut copies: usize = 0;
@@ -27,7 +29,7 @@ fn best_count(below: &[u16], u: Steps, left: usize) -> usize
     while c < left {
         if copies * size == c {
             copies += 1;
-            paid = copies * copy / lost;
+            paid = copies / period * whole + costs[copies % period];
             continue;
         }
         c += 1;
@@ -49,7 +51,7 @@ pub(crate) fn layer_count(
     left: usize,
 ) -> usize
     requires { ⌜ Tabled layers order (now work) × (x < order .s) × (left ≤ order .b) ⌝ }
-    ensures { λ c. ⌜ c ≡ bestCount layers (order .s) (order .k) x left ⌝ }
+    ensures { λ c. ⌜ c ≡ bestCount NestedFloors layers (order .s) (order .k) x left ⌝ }
 {
     let b = order.b;
     let w = b + 1;

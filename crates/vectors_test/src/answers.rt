@@ -17,38 +17,39 @@ use report::Reply;
 ghost use lib.ListN.{length};
 
 // What no call answers.
-pub(crate) fn unknown() -> [usize; 18] {
-    [99; 18]
+pub(crate) fn unknown() -> [usize; 19] {
+    [99; 19]
 }
 
 // Three numbers, and 0 after them.
-pub(crate) fn numbers(a: usize, b: usize, c: usize) -> [usize; 18] {
-    [a, b, c, 0, 0, 0, 0, 0, 0, 0, 0, 0, 0, 0, 0, 0, 0, 0]
+pub(crate) fn numbers(a: usize, b: usize, c: usize) -> [usize; 19] {
+    [a, b, c, 0, 0, 0, 0, 0, 0, 0, 0, 0, 0, 0, 0, 0, 0, 0, 0]
 }
 
 // A refusal's number and place.
-pub(crate) fn refused(e: Refusal) -> [usize; 18] {
+pub(crate) fn refused(e: Refusal) -> [usize; 19] {
     numbers(refusal_code::number(e), refusal_code::place(e), 0)
 }
 
-pub(crate) fn number_read(read: NumberRead) -> [usize; 18] {
+pub(crate) fn number_read(read: NumberRead) -> [usize; 19] {
     match read {
         NumberRead::Value(number) => numbers(0, number.value, number.next),
         NumberRead::Refused(e) => refused(e),
     }
 }
 
-pub(crate) fn number_written(written: NumberWritten) -> [usize; 18] {
+pub(crate) fn number_written(written: NumberWritten) -> [usize; 19] {
     match written {
         NumberWritten::Written(n) => numbers(0, n, 0),
         NumberWritten::Refused(e) => refused(e),
     }
 }
 
-// 0, seven numbers of a head and each layer's bound and size.
-fn with_layers(head: PlacementHead, l: [LayerHead; 5]) -> [usize; 18] {
+// 0, eight numbers of a head and each layer's bound and size.
+fn with_layers(head: PlacementHead, l: [LayerHead; 5]) -> [usize; 19] {
     [
         0,
+        head.kind,
         head.n,
         head.r,
         head.s,
@@ -70,8 +71,9 @@ fn with_layers(head: PlacementHead, l: [LayerHead; 5]) -> [usize; 18] {
 }
 
 // n, r, the place of the first block, and the layers' numbers.
-fn pack_head(head: PackHead, heads: [LayerHead; 5]) -> [usize; 18] {
+fn pack_head(head: PackHead, heads: [LayerHead; 5]) -> [usize; 19] {
     let numbers = PlacementHead {
+        kind: 0,
         n: head.n,
         r: head.r,
         s: 0,
@@ -83,7 +85,7 @@ fn pack_head(head: PackHead, heads: [LayerHead; 5]) -> [usize; 18] {
     with_layers(numbers, heads)
 }
 
-pub(crate) fn pack_checked(check: PackCheck) -> [usize; 18] {
+pub(crate) fn pack_checked(check: PackCheck) -> [usize; 19] {
     let answer = check.answer;
     let heads = check.layers;
     match answer {
@@ -92,8 +94,8 @@ pub(crate) fn pack_checked(check: PackCheck) -> [usize; 18] {
     }
 }
 
-// n, r, s, k, b, F, the place of the first row, and the layers' numbers.
-pub(crate) fn placement_checked(check: PlacementCheck) -> [usize; 18] {
+// The kind, n, r, s, k, b, F, the place of the first row, and the layers' numbers.
+pub(crate) fn placement_checked(check: PlacementCheck) -> [usize; 19] {
     let answer = check.answer;
     let heads = check.layers;
     match answer {
@@ -103,7 +105,7 @@ pub(crate) fn placement_checked(check: PlacementCheck) -> [usize; 18] {
 }
 
 // The length, F and the counts.
-fn planned(length: usize, figure: usize, counts: [usize; 5]) -> [usize; 18] {
+fn planned(length: usize, figure: usize, counts: [usize; 5]) -> [usize; 19] {
     [
         0,
         length,
@@ -123,10 +125,11 @@ fn planned(length: usize, figure: usize, counts: [usize; 5]) -> [usize; 18] {
         0,
         0,
         0,
+        0,
     ]
 }
 
-pub(crate) fn plan_result(result: PlanResult) -> [usize; 18] {
+pub(crate) fn plan_result(result: PlanResult) -> [usize; 19] {
     let answer = result.answer;
     let counts = result.counts;
     match answer {
@@ -136,14 +139,14 @@ pub(crate) fn plan_result(result: PlanResult) -> [usize; 18] {
 }
 
 // 1 and the row's number, or 0.
-pub(crate) fn row_found(found: RowFound) -> [usize; 18] {
+pub(crate) fn row_found(found: RowFound) -> [usize; 19] {
     match found {
         RowFound::At(row) => numbers(0, 1, row.0),
         RowFound::Nothing => numbers(0, 0, 0),
     }
 }
 
-pub(crate) fn replied(reply: Reply) -> [usize; 18] {
+pub(crate) fn replied(reply: Reply) -> [usize; 19] {
     match reply {
         Reply::Written(n) => numbers(0, n, 0),
         Reply::Refused(e) => refused(e),
@@ -151,7 +154,7 @@ pub(crate) fn replied(reply: Reply) -> [usize; 18] {
 }
 
 // How many bytes or entries were written.
-pub(crate) fn wrote(writing: Writing) -> [usize; 18] {
+pub(crate) fn wrote(writing: Writing) -> [usize; 19] {
     match writing {
         Writing::Written(n) => numbers(0, n, 0),
         Writing::Refused(e) => refused(e),

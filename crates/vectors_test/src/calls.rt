@@ -6,7 +6,7 @@ use packing::RowFound;
 ghost use Prim.Native.Nat.{_≤_, _<_};
 
 // The packing test of layer x on c rows of r nodes, where the rows stand in the bytes and are in order.
-fn crowded_rows(rows: &[u8], c: usize, r: usize, x: usize, bound: usize) -> [usize; 18]
+fn crowded_rows(rows: &[u8], c: usize, r: usize, x: usize, bound: usize) -> [usize; 19]
     requires { ⌜ (c ≤ 4096) × (r ≤ 5) × (x < r) ⌝ }
 {
     let end = c * r;
@@ -21,7 +21,7 @@ fn crowded_rows(rows: &[u8], c: usize, r: usize, x: usize, bound: usize) -> [usi
 }
 
 // The packing test, where its numbers are within limits.
-fn crowded(rows: &[u8], c: usize, r: usize, x: usize, bound: usize) -> [usize; 18] {
+fn crowded(rows: &[u8], c: usize, r: usize, x: usize, bound: usize) -> [usize; 19] {
     if 4_096 < c {
         return unknown();
     }
@@ -35,7 +35,7 @@ fn crowded(rows: &[u8], c: usize, r: usize, x: usize, bound: usize) -> [usize; 1
 }
 
 // The calls that write nothing.
-fn told(call: usize, given: Given, input: &[u8]) -> [usize; 18] {
+fn told(call: usize, given: Given, input: &[u8]) -> [usize; 19] {
     match call {
         4 => answers::number_read(number_code::read_number(input, given.a)),
         5 => answers::number_read(number_code::read_within(input, given.a, given.b, given.c)),
@@ -47,12 +47,12 @@ fn told(call: usize, given: Given, input: &[u8]) -> [usize; 18] {
 }
 
 // Planning, with the slices lent.
-fn plan(given: Given, input: &[u8], work: &mut [u16], out: &mut [u8]) -> [usize; 18] {
+fn plan(given: Given, input: &[u8], work: &mut [u16], out: &mut [u8]) -> [usize; 19] {
     answers::plan_result(planner_code::plan(input, given.a, given.b, given.c, work, out))
 }
 
 // What the programs say.
-fn replied(call: usize, input: &[u8], work: &mut [u16], out: &mut [u8]) -> [usize; 18] {
+fn replied(call: usize, input: &[u8], work: &mut [u16], out: &mut [u8]) -> [usize; 19] {
     if call == 12 {
         return answers::replied(report_check::check_reply(input, out));
     }
@@ -76,7 +76,7 @@ fn spread(entries: &[u16], out: &mut [u8]) {
 }
 
 // The curve; its entries, and those after them, are compared as bytes.
-fn curve(input: &[u8], work: &mut [u16], out: &mut [u8]) -> [usize; 18] {
+fn curve(input: &[u8], work: &mut [u16], out: &mut [u8]) -> [usize; 19] {
     let answer = answers::wrote(curve_code::curve(input, work));
     spread(work, out);
     answer
@@ -89,7 +89,7 @@ pub(crate) fn answer(
     input: &[u8],
     work: &mut [u16],
     out: &mut [u8],
-) -> [usize; 18] {
+) -> [usize; 19] {
     match call {
         9 => answers::number_written(number_code::write_number(out, given.a)),
         10 => plan(given, input, work, out),

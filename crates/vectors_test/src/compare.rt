@@ -1,9 +1,9 @@
 // Comparing what a call gave and left with what is expected.
 
 // Whether the two are the same numbers.
-pub(crate) fn same(a: [usize; 18], b: [usize; 18]) -> bool {
+pub(crate) fn same(a: [usize; 19], b: [usize; 19]) -> bool {
     let mut i: usize = 0;
-    while i < 18 {
+    while i < 19 {
         if a[i] != b[i] {
             return false;
         }

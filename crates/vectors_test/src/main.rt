@@ -15,7 +15,7 @@ use script::Part;
 const LENT_MOST: usize = 20_600;
 
 // What the call answers, lent as many entries and bytes as the vector says.
-fn lend(call: usize, given: Given, input: &[u8], work: &mut [u16], out: &mut [u8]) -> [usize; 18] {
+fn lend(call: usize, given: Given, input: &[u8], work: &mut [u16], out: &mut [u8]) -> [usize; 19] {
     let entries = given.entries;
     let room = given.room;
     if work.len() < entries {
@@ -29,7 +29,7 @@ fn lend(call: usize, given: Given, input: &[u8], work: &mut [u16], out: &mut [u8
 
 // What the call answers, where it leaves the lent slices as expected: the output starts with `written`, the working slice's
 // first entries are free, and the rest of both is as it was.
-fn called(call: usize, given: Given, input: &[u8], written: &[u8]) -> [usize; 18] {
+fn called(call: usize, given: Given, input: &[u8], written: &[u8]) -> [usize; 19] {
     let fill = script::byte_of(given.fill);
     let entry = compare::entry_of(fill);
     let mut out = [fill; LENT_MOST];

@@ -85,11 +85,11 @@ fn of_four(a: u8, b: u8, c: u8, d: u8) -> usize {
 }
 
 // The first `count` numbers in the bytes, 0 after them.
-fn numbers_in(bytes: &[u8], count: usize) -> [usize; 18]
-    requires { ⌜ (length (now bytes) ≡ 72) × (count ≤ 18) ⌝ }
-    ensures { λ r. ⌜ 18 ≡ length r ⌝ }
+fn numbers_in(bytes: &[u8], count: usize) -> [usize; 19]
+    requires { ⌜ (length (now bytes) ≡ 76) × (count ≤ 19) ⌝ }
+    ensures { λ r. ⌜ 19 ≡ length r ⌝ }
 {
-    let mut numbers = [0usize; 18];
+    let mut numbers = [0usize; 19];
     let mut i: usize = 0;
     let mut at: usize = 0;
     while i < count {
@@ -108,13 +108,13 @@ pub(crate) fn read_bytes(bytes: &mut [u8], n: usize) -> Part {
     Part { from: 0, to: n }
 }
 
-// The next `count` numbers, at most 18, and 0 after them.
-pub(crate) fn next_numbers(count: usize) -> [usize; 18]
-    ensures { λ r. ⌜ 18 ≡ length r ⌝ }
+// The next `count` numbers, at most 19, and 0 after them.
+pub(crate) fn next_numbers(count: usize) -> [usize; 19]
+    ensures { λ r. ⌜ 19 ≡ length r ⌝ }
 {
-    let mut bytes = [0u8; 72];
-    if 18 < count {
-        return [0; 18];
+    let mut bytes = [0u8; 76];
+    if 19 < count {
+        return [0; 19];
     }
     read_bytes(&mut bytes, 4 * count);
     numbers_in(&bytes, count)

@@ -103,7 +103,7 @@ fn walk_rows(bytes: &[u8], first: Cursor, out: &mut [u8]) -> WalkEnd {
 
 // The place where the walk stood first, the rows that it handed out and their bytes, its place after them, what two more steps
 // hand out, its place after these, and the place in the answer.
-fn places(bytes: &[u8], first: Cursor, end: WalkEnd, answered: Cursor) -> [usize; 18] {
+fn places(bytes: &[u8], first: Cursor, end: WalkEnd, answered: Cursor) -> [usize; 19] {
     let last = end.place;
     let once = step_from(bytes, last);
     let twice = step_from(bytes, once.next);
@@ -127,11 +127,12 @@ fn places(bytes: &[u8], first: Cursor, end: WalkEnd, answered: Cursor) -> [usize
         0,
         0,
         0,
+        0,
     ]
 }
 
 // Beside a refusal the walk is at its end.
-pub(crate) fn walked(bytes: &[u8], out: &mut [u8]) -> [usize; 18] {
+pub(crate) fn walked(bytes: &[u8], out: &mut [u8]) -> [usize; 19] {
     let opening = open_from(bytes);
     let answer = opening.answer;
     let first = opening.place;

@@ -17,16 +17,16 @@ nineAt at left = record { at = at; r = 3; left = left }
 
 -- it opens at byte 11; the first row, the last row, the end, and the end again, also for a walk past the last byte
 -- and for one that somebody made up, whose next place would not fit 64 bits
-pub walks : (openWalk (placementFile 5) ≡ accepted (nineAt 11 9))
-    × (stepRow (placementFile 5) (nineAt 11 9) ≡ 0 ∷ 1 ∷ 2 ∷ [])
-    × (stepWalk (placementFile 5) (nineAt 11 9) ≡ nineAt 14 8)
-    × (stepRow (placementFile 5) (nineAt 35 1) ≡ 2 ∷ 4 ∷ 5 ∷ [])
-    × (stepWalk (placementFile 5) (nineAt 35 1) ≡ nineAt 38 0)
-    × (stepRow (placementFile 5) (nineAt 38 0) ≡ [])
-    × (stepWalk (placementFile 5) (nineAt 38 0) ≡ nineAt 38 0)
-    × (stepRow (placementFile 5) (nineAt 36 1) ≡ [])
-    × (stepWalk (placementFile 5) (nineAt 36 1) ≡ nineAt 36 1)
-    × (stepRow (placementFile 5) (nineAt 18_446_744_073_709_551_615 9) ≡ [])
+pub walks : (openWalk (placementFile 3 5) ≡ accepted (nineAt 11 9))
+    × (stepRow (placementFile 3 5) (nineAt 11 9) ≡ 0 ∷ 1 ∷ 2 ∷ [])
+    × (stepWalk (placementFile 3 5) (nineAt 11 9) ≡ nineAt 14 8)
+    × (stepRow (placementFile 3 5) (nineAt 35 1) ≡ 2 ∷ 4 ∷ 5 ∷ [])
+    × (stepWalk (placementFile 3 5) (nineAt 35 1) ≡ nineAt 38 0)
+    × (stepRow (placementFile 3 5) (nineAt 38 0) ≡ [])
+    × (stepWalk (placementFile 3 5) (nineAt 38 0) ≡ nineAt 38 0)
+    × (stepRow (placementFile 3 5) (nineAt 36 1) ≡ [])
+    × (stepWalk (placementFile 3 5) (nineAt 36 1) ≡ nineAt 36 1)
+    × (stepRow (placementFile 3 5) (nineAt 18_446_744_073_709_551_615 9) ≡ [])
 unfolding flatten placementFile sevenPlacement openWalk stepRow stepWalk
 walks =
     (ap (mapAccepted firstRow) placement-located, refl, refl, refl, refl, refl, refl, refl, refl, refl)

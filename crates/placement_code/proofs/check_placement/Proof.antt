@@ -1,10 +1,11 @@
 -- `placement_code::check_placement` meets its contract: each return is a case of `readPlacement`, over what reading the
 -- numbers, checking the rows and the figure ensure. Assumes nothing.
 use native.Mathlib.Omega.{arith}
-use mathlib.Core.Path.{_≡_, _∙_}
+use mathlib.Core.Path.{_≡_, refl, _∙_}
 use Rattle.refusal.specs.Checked.{accepted}
 use Rattle.refusal.proofs.Checked.{verdict-good, verdict-refused}
 use Rattle.layers.specs.Layers.{readBase, checkRows}
+use Rattle.layers.specs.declared.FileKind.the-variants.{Placement as PlacementKind}
 use Rattle.layers.proofs.Heads.{reads-of-readBase}
 use Rattle.layers.proofs.Answered.{LayersGood, base-refused, base-good, layers-refused, layers-good}
 use Rattle.placement.specs.Placement.{placementLayerLimits, readTerms}
@@ -25,7 +26,7 @@ refuse-requires c κs = search needs
 
 -- what was read and found good before a place
 base-of : (c : tie.After-enum-told) → let head = c .before .before .read-base .result in
-    readBase 2 (c .before .before .before .before .args .bytes .now) ≡ accepted (record { base = head .base; next = head .next })
+    readBase PlacementKind (c .before .before .before .before .args .bytes .now) ≡ accepted (record { kind = head .kind; base = head .base; next = head .next })
 base-of c = base-good _ (c .before .before .read-base .ensures) (c .enum-told .given .1)
 
 terms-of : (c : tie.After-enum-told2) → let read = c .before .before .read-terms .result in
@@ -46,14 +47,14 @@ layers-of c =
 returns : tie.Need-returns
 returns c =
     c .refuse .ensures
-    ∙ placement-no-base _ (base-refused (readBase 2 _) (c .before .before .before .before .read-base .ensures) (c .before .before .head-verdict .given .1))
+    ∙ placement-no-base _ (base-refused (readBase PlacementKind _) (c .before .before .before .before .read-base .ensures) (c .before .before .head-verdict .given .1))
 
 enum-told : tie.Need-enum-told
 enum-told c = search needs
 
 read-terms-requires : tie.Need-read-terms-requires
 read-terms-requires c κs =
-    omega (arith, reads-of-readBase 2 _ (base-of (c .before)) .1 .n-least)
+    omega (arith, reads-of-readBase PlacementKind _ (base-of (c .before)) .1 .n-least)
 
 enum-known-read-verdict : tie.Need-enum-known-read-verdict
 enum-known-read-verdict c = search needs
@@ -116,9 +117,12 @@ returns-4 c =
 enum-told-4 : tie.Need-enum-told-4
 enum-told-4 c = search needs
 
+rule-of-requires : tie.Need-rule-of-requires
+rule-of-requires c κs = search needs
+
 figure-of-requires : tie.Need-figure-of-requires
 figure-of-requires c κs =
-    let l = c .before .before .before .before in
+    let l = c .before .before .before .before .before in
     let o = l .before .before .before .before in
     figure-asked _ (base-of (o .before .before .before .before)) (terms-of o) (layers-of l)
 
@@ -127,22 +131,22 @@ refuse-requires-5 c κs = search needs
 
 returns-5 : tie.Need-returns-5
 returns-5 c =
-    let r = c .before .before .before .before in
+    let r = c .before .before .before .before .before in
     let l = r .before .before .before .before in
     let o = l .before .before .before .before in
     c .refuse5 .ensures
     ∙ wrong-figure _ (base-of (o .before .before .before .before)) (terms-of o) (layers-of l)
     (verdict-good (checkRows _ _ _ _) (r .before .before .check-rows .ensures) (r .enum-told4 .given .1) .1)
-    (c .before .before .before .figure-of .ensures) (c .before .if1 .taken)
+    (c .before .before .before .figure-of .ensures ∙ rw (c .before .before .before .before .rule-of .ensures) refl) (c .before .if1 .taken)
 
 returns-6 : tie.Need-returns-6
 returns-6 c =
-    let r = c .before .before .before in
+    let r = c .before .before .before .before in
     let l = r .before .before .before .before in
     let o = l .before .before .before .before in
     right-figure _ (base-of (o .before .before .before .before)) (terms-of o) (layers-of l)
     (verdict-good (checkRows _ _ _ _) (r .before .before .check-rows .ensures) (r .enum-told4 .given .1) .1)
-    (c .before .before .figure-of .ensures) (c .if1 .left)
+    (c .before .before .figure-of .ensures ∙ rw (c .before .before .before .rule-of .ensures) refl) (c .if1 .left)
 
 pub check-placement-spec : {M : Type 1} → statement M
 check-placement-spec =
@@ -168,6 +172,7 @@ check-placement-spec =
     refuse-requires-4
     returns-4
     enum-told-4
+    rule-of-requires
     figure-of-requires
     refuse-requires-5
     returns-5

@@ -48,11 +48,11 @@ part-write-layers-end c = search needs
 write-layers-requires : tie.Need-write-layers-requires
 write-layers-requires c κs = rows-limits (written (c .before .before .before))
 
-mul-t17 : tie.Need-mul-t17
-mul-t17 c = omega (arith, rows-fit (written (c .before .before .before .before .before .before)))
+mul-t18 : tie.Need-mul-t18
+mul-t18 c = omega (arith, rows-fit (written (c .before .before .before .before .before .before)))
 
-add-t20 : tie.Need-add-t20
-add-t20 c = omega (arith, rows-fit (written (c .before .before .before .before .before .before)))
+add-t21 : tie.Need-add-t21
+add-t21 c = omega (arith, rows-fit (written (c .before .before .before .before .before .before)))
 
 same-length : tie.Need-same-length
 same-length c = search needs
@@ -74,7 +74,7 @@ write-placement-spec =
     part-write-layers-start
     part-write-layers-end
     write-layers-requires
-    mul-t17
-    add-t20
+    mul-t18
+    add-t21
     same-length
     returns)

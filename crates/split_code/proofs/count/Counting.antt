@@ -1,7 +1,7 @@
 -- The largest count with the least loss, found by a scan in which a copy is added where the copies so far hold no more records.
 -- Assumes nothing.
-use Prim.Native.Nat.{ℕ, suc, _+_, _*_, _-_, _/_, _≤_, _<_, min}
-use native.Mathlib.Nat.{le-antisymm, sub-zero, suc-mul, zero-mul, zero-div, mul-le-mul-right, le-mul-of-pos-right}
+use Prim.Native.Nat.{ℕ, suc, _+_, _*_, _-_, _≤_, _<_, min}
+use native.Mathlib.Nat.{le-antisymm, sub-zero, suc-mul, mul-le-mul-right, le-mul-of-pos-right}
 use native.Mathlib.Numerals.{add-one}
 use native.Mathlib.Omega.{arith}
 use mathlib.Core.Path.{_≡_, refl, sym, ap, _∙_}
@@ -10,10 +10,11 @@ use mathlib.Core.List.{List}
 use lib.ListN.{getD}
 use Rattle.split.specs.declared.Steps.{Steps}
 use Rattle.split.specs.Splits.{copiesFor, least, lastLeast}
-use Rattle.split.specs.Table.{sumAt, stepLoss}
+use Rattle.split.specs.Table.{sumAt, StepLimits, copiesCost, stepLoss}
 use Rattle.lists.proofs.Arith.{le-or-lt}
 use Rattle.split.proofs.Least.{least-suc, lastLeast-suc-le, lastLeast-suc-lt}
 use Rattle.split.proofs.Copies.{copiesFor-le, le-copiesFor-mul}
+use Rattle.split.proofs.Periods.{copies-repeat}
 
 -- where a scan is: the places up to c were looked at
 pub record ScanTo (f : ℕ → ℕ) (c best low : ℕ) : Type 0 where
@@ -44,24 +45,24 @@ pub record Counted (u : Steps) (below : List ℕ) (left best low copies paid c :
   pub few : copies ≤ c + 1
   pub held : c ≤ copies * u .size
   pub needed : copies * u .size ≤ c + u .size
-  pub floor : paid ≡ copies * u .copy / u .lost
+  pub cost : paid ≡ copiesCost u copies
   pub scan : ScanTo (sumAt (stepLoss u) below left) c best low
 
 module _ {u : Steps} {below : List ℕ} {left : ℕ} where
-  pub counted-none : {low : ℕ} → low ≡ getD below left 0 → Counted u below left 0 low 0 0 0
-  counted-none e =
+  pub counted-none : {low : ℕ} → StepLimits u → low ≡ getD below left 0 → Counted u below left 0 low 0 0 0
+  counted-none limits e =
       record {
         within = omega arith;
         few = omega arith;
         held = omega arith;
         needed = omega arith;
-        floor = sym (ap (λ n. n / u .lost) (zero-mul (u .copy)) ∙ zero-div (u .lost));
+        cost = sym (copies-repeat limits .none);
         scan = scan-none (sumAt (stepLoss u) below left) (e ∙ (rw (sub-zero left) (omega arith)));
       }
 
   module _ (blocks : 0 < u .size) {best low copies paid c : ℕ} (s : Counted u below left best low copies paid c) (turn : c < left) where
     -- one copy more
-    pub counted-more : copies * u .size ≡ c → Counted u below left best low (copies + 1) ((copies + 1) * u .copy / u .lost) c
+    pub counted-more : copies * u .size ≡ c → Counted u below left best low (copies + 1) (copiesCost u (copies + 1)) c
     counted-more e =
         let g = le-mul-of-pos-right copies blocks in
         record {
@@ -69,7 +70,7 @@ module _ {u : Steps} {below : List ℕ} {left : ℕ} where
           few = omega arith;
           held = omega arith;
           needed = omega arith;
-          floor = refl;
+          cost = refl;
           scan = s .scan;
         }
 
@@ -92,7 +93,7 @@ module _ {u : Steps} {below : List ℕ} {left : ℕ} where
               absurd (omega arith)
 
       loss-eq : loss ≡ sumAt (stepLoss u) below left (suc c)
-      loss-eq = ap (λ n. n + getD below (left - (c + 1)) 0) e ∙ rw (add-one c, copies-eq, s .floor) refl
+      loss-eq = ap (λ n. n + getD below (left - (c + 1)) 0) e ∙ rw (add-one c, copies-eq, s .cost) refl
 
       pub counted-taken : loss ≤ low → Counted u below left (c + 1) loss copies paid (c + 1)
       counted-taken h =
@@ -103,7 +104,7 @@ module _ {u : Steps} {below : List ℕ} {left : ℕ} where
             few = omega arith;
             held = omega arith;
             needed = omega arith;
-            floor = s .floor;
+            cost = s .cost;
             scan = scan-taken (sumAt (stepLoss u) below left) (s .scan) loss-eq h;
           }
 
@@ -116,6 +117,6 @@ module _ {u : Steps} {below : List ℕ} {left : ℕ} where
             few = omega arith;
             held = omega arith;
             needed = omega arith;
-            floor = s .floor;
+            cost = s .cost;
             scan = scan-left (sumAt (stepLoss u) below left) (s .scan) loss-eq h;
           }

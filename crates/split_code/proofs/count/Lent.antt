@@ -7,12 +7,13 @@ use mathlib.Core.List.{List}
 use lib.ListN.{length}
 use Rattle.layers.specs.declared.LayerHead.{LayerHead}
 use Rattle.placement.specs.declared.Order.{Order}
+use Rattle.placement.specs.declared.Rule.the-variants.{NestedFloors}
 use Rattle.split.specs.declared.Steps.{Steps}
 use Rattle.split.specs.Splits.{lastLeast, bestCount}
 use Rattle.split.specs.Table.{sumAt, stepsOf, stepLoss, tableLine}
 use Rattle.split.specs.Working.{part, Tabled, Countable}
 use Rattle.split.proofs.TableLines.{length-tableLine, rising-tableLine, best-tableLine}
-use Rattle.split.proofs.Stepped.{lastLeast-steps}
+use Rattle.split.proofs.LineSteps.{lastLeast-steps}
 use Rattle.split.proofs.LayerSteps.{lossOf-steps, steps-limits}
 use Rattle.split.proofs.Filling.{line-end}
 
@@ -51,9 +52,10 @@ module _ {layers : List LayerHead} {order : Order} {work : List ℕ} (t : Tabled
         }
 
     -- the count is the definition's
-    pub best-lent : lastLeast (sumAt (stepLoss u) lent left) left ≡ bestCount layers (order .s) (order .k) x left
+    pub best-lent : lastLeast (sumAt (stepLoss u) lent left) left ≡ bestCount NestedFloors layers (order .s) (order .k) x left
     best-lent =
         let h = t .limits .b-le in
         rw (e, lent-eq)
-        (lastLeast-steps _ _ (lossOf-steps layers (order .s) (order .k) x) (tableLine layers (order .s) (order .k) w x) left (omega arith)
+        (lastLeast-steps _ (stepsOf layers (order .s) (order .k) x) (lossOf-steps layers (order .s) (order .k) x below (t .limits .s-le))
+        (tableLine layers (order .s) (order .k) w x) left (omega arith)
         ∙ best-tableLine layers (order .s) (order .k) w x left (omega arith))

@@ -1,7 +1,7 @@
 -- A line of the table, written entry by entry from the line below it: the losses by records, which both ways of raising a
 -- line keep, and the losses by copies. Assumes nothing.
 use Prim.Native.Nat.{ℕ, _+_, _*_, _-_, _≤_, _<_, min}
-use native.Mathlib.Nat.{eq-or-lt-of-le}
+use native.Mathlib.Nat.{le-refl, le-of-lt, lt-of-le-of-lt, mul-pos, mul-le-mul, eq-or-lt-of-le}
 use native.Mathlib.Omega.{arith}
 use mathlib.Core.Path.{_≡_, refl, sym, ap, ap₂, _∙_}
 use mathlib.Core.Logic.{_⊎_, inl, inr}
@@ -10,11 +10,14 @@ use lib.ListN.{length, getD, set, replicate, length-set}
 use lib.Seq.{sets, getD-set-same, getD-set-other}
 use Rattle.lists.proofs.UpTo.{map-upTo-congr}
 use Rattle.split.specs.declared.Steps.{Steps}
-use Rattle.split.specs.Splits.{noSplit}
-use Rattle.split.specs.Table.{StepLimits, Rising, stepped, lineEntry}
-use Rattle.split.specs.Working.{part, LineBelow}
-use Rattle.split.proofs.Stepped.{stepped-zero, stepped-le-mark, stepped-step, lineEntry-records, record-step}
-use Rattle.split.proofs.Parts.{storedTo, stored-none, stored-next, under-eq}
+use Rattle.split.specs.Splits.{noSplit, least}
+use Rattle.split.specs.Table.{StepLimits, Rising, stepped, byPeriods, withCopies, byCopies, lineEntry}
+use Rattle.split.specs.Working.{part, LineBelow, CopiesOn}
+use Rattle.split.proofs.Congruence.{least-congr}
+use Rattle.split.proofs.Stepped.{stepped-zero, stepped-le-mark, stepped-step, record-step}
+use Rattle.split.proofs.LineSteps.{lineEntry-records}
+use Rattle.lists.proofs.Stores.{storedTo, stored-none, stored-next}
+use Rattle.split.proofs.Parts.{under-eq}
 
 -- the line below place `at`
 abbrev pub lineUnder : (at w : ℕ) (work : List ℕ) → List ℕ
@@ -25,7 +28,7 @@ pub record Raised (each at w : ℕ) (before : List ℕ) (f : ℕ → ℕ) (i rec
   pub within : i ≤ w
   pub same : length work ≡ length before
   pub written : work ≡ storedTo at before f i
-  pub by-records : records ≡ stepped 1 1 each (lineUnder at w before) (i - 1)
+  pub by-records : records ≡ stepped 1 each (lineUnder at w before) (i - 1)
 
 module _ {each at w : ℕ} {before : List ℕ} {f : ℕ → ℕ} (below : LineBelow at w before) where
   pub raised-none : Raised each at w before f 0 0 before
@@ -34,13 +37,13 @@ module _ {each at w : ℕ} {before : List ℕ} {f : ℕ → ℕ} (below : LineBe
         within = omega arith;
         same = refl;
         written = stored-none at before f;
-        by-records = sym (stepped-zero 1 1 each _ (omega arith) (below .rising));
+        by-records = sym (stepped-zero 1 each _ (omega arith) (below .rising));
       }
 
   module _ {i records : ℕ} {work : List ℕ} (r : Raised each at w before f i records work) where
     pub records-le : records ≤ noSplit
     records-le =
-        let h = stepped-le-mark 1 1 each (lineUnder at w before) (omega arith) (below .rising) (i - 1) in
+        let h = stepped-le-mark 1 each (lineUnder at w before) (omega arith) (below .rising) (i - 1) in
         omega (arith, r .by-records)
 
     module _ (turn : i < w) where
@@ -50,7 +53,7 @@ module _ {each at w : ℕ} {before : List ℕ} {f : ℕ → ℕ} (below : LineBe
       pub under-le : getD work (at - w + i) 0 ≤ noSplit
       under-le = rw under (below .rising .marked i)
 
-      pub by-record : {more : ℕ} → more ≡ min (getD work (at - w + i) 0) (records + each) → more ≡ stepped 1 1 each (lineUnder at w before) i
+      pub by-record : {more : ℕ} → more ≡ min (getD work (at - w + i) 0) (records + each) → more ≡ stepped 1 each (lineUnder at w before) i
       by-record e = record-step each (lineUnder at w before) i (r .by-records) under e
 
       -- one entry more
@@ -70,49 +73,79 @@ module _ {each at w : ℕ} {before : List ℕ} {f : ℕ → ℕ} (below : LineBe
 
 -- where a copy costs the mark, or all the records that it holds, the line by records is the line
 pub raised-by-records : {u : Steps} {at w : ℕ} {before after : List ℕ} → StepLimits u → LineBelow at w before
-    → u .lost * min noSplit (u .size * u .each) ≤ u .copy
-    → after ≡ storedTo at before (stepped 1 1 (u .each) (lineUnder at w before)) w
+    → min noSplit (u .size * u .each) ≤ getD (u .costs) 1 0
+    → after ≡ storedTo at before (stepped 1 (u .each) (lineUnder at w before)) w
     → after ≡ storedTo at before (lineEntry u (lineUnder at w before)) w
 raised-by-records {u} {at} {w} {before} limits below dear e =
-    e ∙ ap (sets before at) (map-upTo-congr _ _ w (λ b h. sym (lineEntry-records u limits _ (below .rising) dear b)))
+    e ∙ ap (sets before at) (map-upTo-congr _ _ w (λ b h. sym (lineEntry-records limits _ (below .rising) dear b)))
 
--- `scaled` has the losses by copies before place i, times `lost`
-pub record Scaled (u : Steps) (under : List ℕ) (i : ℕ) (scaled : List ℕ) : Type 0 where
-  pub room : length scaled ≡ 4_097
-  pub by-copies : (j : ℕ) → j ≤ i - 1 → getD scaled j 0 ≡ stepped (u .lost) (u .size) (u .copy) under j
+-- `periods` has the losses by whole periods before place i
+pub record Periods (u : Steps) (under : List ℕ) (i : ℕ) (periods : List ℕ) : Type 0 where
+  pub room : length periods ≡ 4_097
+  pub by-periods : (j : ℕ) → j ≤ i - 1 → getD periods j 0 ≡ byPeriods u under j
+
+-- a period of copies holds a record
+pub whole-pos : {u : Steps} → StepLimits u → 0 < u .period * u .size
+whole-pos limits = mul-pos (limits .period-pos) (limits .size-pos)
+
+pub whole-le : {u : Steps} → StepLimits u → u .period * u .size ≤ 491_520
+whole-le limits = mul-le-mul (limits .period-le) (limits .size-le)
 
 module _ {u : Steps} {under : List ℕ} (limits : StepLimits u) (rising : Rising under) where
-  pub scaled-none : Scaled u under 0 (replicate 4_097 0)
-  scaled-none =
+  abbrev whole : ℕ
+  whole = getD (u .costs) (u .period) 0
+
+  pub periods-none : Periods u under 0 (replicate 4_097 0)
+  periods-none =
       record {
         room = refl;
-        by-copies = λ j h.
-            let e : j ≡ 0 = omega arith in
-            rw e (sym (stepped-zero (u .lost) (u .size) (u .copy) under (limits .size-pos) rising));
+        by-periods = λ j h. let e : j ≡ 0 = omega arith in rw e (sym (stepped-zero (u .period * u .size) whole under (whole-pos limits) rising));
       }
 
-  module _ {i : ℕ} {scaled : List ℕ} (r : Scaled u under i scaled) where
-    pub earlier-le : (j : ℕ) → j ≤ i - 1 → getD scaled j 0 ≤ u .lost * noSplit
+  module _ {i : ℕ} {periods : List ℕ} (r : Periods u under i periods) where
+    pub earlier-le : (j : ℕ) → j ≤ i - 1 → getD periods j 0 ≤ noSplit
     earlier-le j h =
-        rw (r .by-copies j h) (stepped-le-mark (u .lost) (u .size) (u .copy) under (limits .size-pos) rising j)
+        rw (r .by-periods j h) (stepped-le-mark (u .period * u .size) whole under (whole-pos limits) rising j)
 
-    -- one copy more, or all the records are below
-    pub by-copy : (earlier copies below : ℕ) → earlier ≡ i - u .size → below ≡ getD under i 0
-        → copies ≡ min (u .lost * below) (getD scaled earlier 0 + u .copy)
-        → copies ≡ stepped (u .lost) (u .size) (u .copy) under i
-    by-copy earlier copies below earlier≡ below≡ copies≡ =
-        let p = limits .size-pos in
+    -- one period more, or all the records are below
+    pub by-period : (earlier copies below : ℕ) → earlier ≡ i - u .period * u .size → below ≡ getD under i 0
+        → copies ≡ min below (getD periods earlier 0 + whole) → copies ≡ byPeriods u under i
+    by-period earlier copies below earlier≡ below≡ copies≡ =
+        let p = whole-pos limits in
         copies≡
-        ∙ ap₂ (λ a b. min (u .lost * a) (b + u .copy)) below≡ (ap (λ j. getD scaled j 0) earlier≡ ∙ r .by-copies (i - u .size) (omega arith))
-        ∙ sym (stepped-step (u .lost) (u .size) (u .copy) under p i)
+        ∙ ap₂ (λ a b. min a (b + whole)) below≡ (ap (λ j. getD periods j 0) earlier≡ ∙ r .by-periods (i - u .period * u .size) (omega arith))
+        ∙ sym (stepped-step (u .period * u .size) whole under p i)
 
-    pub scaled-next : (copies : ℕ) → i < 4_097 → copies ≡ stepped (u .lost) (u .size) (u .copy) under i → Scaled u under (i + 1) (set scaled i copies)
-    scaled-next copies h e =
+    module _ (copies : ℕ) (h : i < 4_097) (e : copies ≡ byPeriods u under i) where
+      pub periods-next : Periods u under (i + 1) (set periods i copies)
+      periods-next =
+          record {
+            room = length-set periods i copies ∙ r .room;
+            by-periods = λ j g. let here : i + 1 - 1 ≡ i = omega arith in stored j (eq-or-lt-of-le (rw here at g));
+          }
+        where
+          stored : (j : ℕ) → (j ≡ i) ⊎ (j < i) → getD (set periods i copies) j 0 ≡ byPeriods u under j
+          stored j (inl q) = let l = r .room in rw q (getD-set-same periods i copies 0 (omega arith) ∙ e)
+          stored j (inr g) = getD-set-other periods i j copies 0 (λ p. omega arith) ∙ r .by-periods j (omega arith)
+
+  -- fewer copies than a period beside an entry by whole periods
+  module _ {i : ℕ} {periods : List ℕ} (r : Periods u under (i + 1) periods) (h : i < 4_097) where
+    here : i + 1 - 1 ≡ i
+    here = omega arith
+
+    pub copies-on : CopiesOn (u .costs) periods (u .size) (u .period) i
+    copies-on =
         record {
-          room = length-set scaled i copies ∙ r .room;
-          by-copies = λ j g. let here : i + 1 - 1 ≡ i = omega arith in stored j (eq-or-lt-of-le (rw here at g));
+          period-pos = limits .period-pos;
+          period-le = let l = limits .room in let p = limits .period-le in omega arith;
+          none = limits .none;
+          rising = λ a b l g. limits .rising a b l (le-of-lt g);
+          small = λ d l. lt-of-le-of-lt (limits .rising d (u .period) (le-of-lt l) (le-refl _)) (limits .small);
+          first = r .by-periods 0 (omega arith) ∙ stepped-zero (u .period * u .size) whole under (whole-pos limits) rising;
+          marked = λ j l. earlier-le r j (rw here l);
+          within = let l = r .room in omega arith;
         }
-      where
-        stored : (j : ℕ) → (j ≡ i) ⊎ (j < i) → getD (set scaled i copies) j 0 ≡ stepped (u .lost) (u .size) (u .copy) under j
-        stored j (inl q) = let l = r .room in rw q (getD-set-same scaled i copies 0 (omega arith) ∙ e)
-        stored j (inr g) = getD-set-other scaled i j copies 0 (λ p. omega arith) ∙ r .by-copies j (omega arith)
+
+    pub by-copies : {copies : ℕ} → copies ≡ least (withCopies (u .costs) periods (u .size) i) (u .period - 1) → copies ≡ byCopies u under i
+    by-copies e =
+        e ∙ least-congr _ _ (u .period - 1) (λ d l. ap (λ n. getD (u .costs) d 0 + n) (r .by-periods (i - d * u .size) (omega arith)))

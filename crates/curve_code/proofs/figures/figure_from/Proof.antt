@@ -1,24 +1,27 @@
 -- `curve_code::figures::figure_from` meets its contract. The loop's invariant: what is lost so far and the losses of the layers
 -- that are left are the losses of all. Assumes nothing.
-use Prim.Native.Nat.{_+_, _-_}
+use Prim.Native.Nat.{_+_, _*_, _-_, min}
 use native.Mathlib.Omega.{arith}
-use mathlib.Core.Path.{_≡_}
+use mathlib.Core.Path.{_≡_, _∙_, ap}
 use lib.ListN.{getD}
 use Rattle.binomial.specs.Choose.{choose}
-use Rattle.placement_figure.proofs.Losses.{LossTurn, loss-holds, lost-le-sizes, loss-done, product-fits, divisor-positive, loss-again}
-use Rattle.curve.proofs.Binomials.{row-entry}
+use Rattle.binomial.proofs.Laws.{choose-positive, mul-choose-lt}
+use Rattle.layers.specs.Answers.{noHead}
+use Rattle.placement.specs.declared.Rule.the-variants.{OneFloor}
+use Rattle.placement_figure.proofs.Losses.{LossTurn, loss-holds, lost-le-sizes, loss-done, lambda-most, loss-again}
+use Rattle.curve.proofs.Binomials.{row-entry, one-floor}
 use borrow.Author.Needs.{needs}
 use Rattle.curve_code.proofs.figures.figure_from.Statement.{statement}
 use Rattle.curve_code.proofs.figures.figure_from.Tie as tie
 
 abbrev Inv-loop : tie.InvT-loop
-Inv-loop s b k layers above below lost₀ x₀ lost x = LossTurn s k layers lost x
+Inv-loop s b k layers above below lost₀ x₀ lost x = LossTurn OneFloor s k layers lost x
 
 abbrev μ-loop : tie.MeasureT-loop
 μ-loop s b k layers above below lost₀ x₀ lost x = s - x
 
 loop-holds : tie.Need-loop-holds Inv-loop μ-loop
-loop-holds c = loss-holds _ _ _
+loop-holds c = loss-holds OneFloor _ _ _
 
 -- the two binomials that are read
 above-is : (c : tie.In-loop Inv-loop μ-loop) → let a = c .before .before .args in
@@ -52,10 +55,9 @@ mul-most-2 : tie.Need-mul-most-2 Inv-loop μ-loop
 mul-most-2 c =
     let l = c .before .before in
     let p = l .before .before .pre in
-    omega (
-      arith,
-      product-fits _ _ _ _ _ (l .before .loop .inv) (l .loop-test .taken) (p .0 .0 .held) (p .0 .0 .s-most) (p .0 .1) (p .0 .0 .bounds) (above-is l),
-    )
+    let most = lambda-most OneFloor _ _ _ _ _ (l .before .loop .inv) (l .loop-test .taken) (p .0 .0 .held) (p .0 .0 .bounds) in
+    let fits = mul-choose-lt _ _ (l .before .loop .x + 1) most (p .0 .1) (omega (arith, p .0 .0 .s-most, l .loop-test .taken)) in
+    omega (arith, fits, ap (λ a. getD (l .before .before .args .t3) (l .before .loop .x) noHead .bound * a) (above-is l))
 
 add-most-2 : tie.Need-add-most-2 Inv-loop μ-loop
 add-most-2 c = search needs
@@ -69,10 +71,7 @@ array-read-most-2 c = search needs
 div-most : tie.Need-div-most Inv-loop μ-loop
 div-most c =
     let l = c .before .before in
-    omega (
-      arith,
-      divisor-positive _ _ _ _ _ (l .before .loop .inv) (l .loop-test .taken) (l .before .before .pre .0 .0 .held) (below-is l),
-    )
+    omega (arith, below-is l, choose-positive (l .before .before .args .s) (l .before .loop .x + 1) (omega (arith, l .loop-test .taken)))
 
 smaller-requires : tie.Need-smaller-requires Inv-loop μ-loop
 smaller-requires c κs = search needs
@@ -80,16 +79,17 @@ smaller-requires c κs = search needs
 again : (c : tie.After-smaller Inv-loop μ-loop)
     → let l = c .before .before .before in
     let a = l .before .before .args in
-    LossTurn (a .s) (a .k) (a .t3) (l .before .loop .lost + c .smaller .result) (l .before .loop .x + 1)
+    LossTurn OneFloor (a .s) (a .k) (a .t3) (l .before .loop .lost + c .smaller .result) (l .before .loop .x + 1)
 again c =
     let l = c .before .before .before in
-    loss-again _ _ _ _ _ (l .before .loop .inv) (l .loop-test .taken) (l .before .before .pre .0 .0 .held) (above-is l) (below-is l)
-    (c .smaller .ensures)
+    let a = l .before .before .args in
+    loss-again OneFloor _ _ _ _ _ (l .before .loop .inv) (l .loop-test .taken) (l .before .before .pre .0 .0 .held)
+    (c .smaller .ensures ∙ ap (min (getD (a .t3) (l .before .loop .x) noHead .size)) (one-floor _ _ _ _ (above-is l) (below-is l)))
 
 add-lost : tie.Need-add-lost Inv-loop μ-loop
 add-lost c =
     let p = c .before .before .before .before .before .pre in
-    omega (arith, p .0 .0 .fit, lost-le-sizes _ _ _ _ _ (again c))
+    omega (arith, p .0 .0 .fit, lost-le-sizes OneFloor _ _ _ _ _ (again c))
 
 add-x : tie.Need-add-x Inv-loop μ-loop
 add-x c = search needs
@@ -102,11 +102,10 @@ loop-again c = again c
 
 sub-result : tie.Need-sub-result Inv-loop μ-loop
 sub-result c =
-    omega (arith, c .before .before .pre .0 .0 .fit, lost-le-sizes _ _ _ _ _ (c .before .loop .inv))
+    omega (arith, c .before .before .pre .0 .0 .fit, lost-le-sizes OneFloor _ _ _ _ _ (c .before .loop .inv))
 
 returns : tie.Need-returns Inv-loop μ-loop
-returns c =
-    (loss-done _ _ _ _ _ (c .before .loop .inv) _ (c .loop-test .left), omega arith)
+returns c = loss-done OneFloor _ _ _ _ _ (c .before .loop .inv) _ (c .loop-test .left)
 
 pub figure-from-spec : {M : Type 1} → statement M
 figure-from-spec =

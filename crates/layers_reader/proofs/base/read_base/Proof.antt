@@ -29,9 +29,9 @@ refuse-requires c κs = search needs
 returns : tie.Need-returns
 returns c =
     let a = c .before .before .before .before .before .before .args in
-    let no-kind = was-refused (readKind (a .kind) (a .bytes .now)) (c .before .before .before .before .read-kind .ensures)
+    let no-kind = was-refused (readKind (a .file) (a .bytes .now)) (c .before .before .before .before .read-kind .ensures)
     (c .before .before .enum-told .given .1) (c .before .refusal-of .ensures) in
-    c .refuse .ensures ∙ sym (ap baseRead (base-no-kind (a .kind) (a .bytes .now) no-kind))
+    c .refuse .ensures ∙ sym (ap baseRead (base-no-kind (a .file) (a .bytes .now) no-kind))
 
 read-within-requires : tie.Need-read-within-requires
 read-within-requires c κs = search needs
@@ -53,10 +53,10 @@ returns-2 c =
     let n = c .before .before .before .before in
     let kind = n .before .before in
     let a = kind .before .before .before .before .args in
-    let kind-read = was-read (readKind (a .kind) (a .bytes .now)) (kind .before .before .read-kind .ensures) (kind .first .given .1) in
+    let kind-read = was-read (readKind (a .file) (a .bytes .now)) (kind .before .before .read-kind .ensures) (kind .first .given .1) in
     let no-n = was-refused (readWithin 2 255 (a .bytes .now) _) (n .read-within .ensures) (c .before .before .enum-told2 .given .1)
     (c .before .refusal-of2 .ensures) in
-    c .refuse2 .ensures ∙ sym (ap baseRead (base-no-n (a .kind) (a .bytes .now) kind-read no-n))
+    c .refuse2 .ensures ∙ sym (ap baseRead (base-no-n (a .file) (a .bytes .now) kind-read no-n))
 
 smaller-requires : tie.Need-smaller-requires
 smaller-requires c κs = search needs
@@ -82,11 +82,11 @@ returns-3 c =
     let n = r .before .before .before in
     let kind = n .before .before .before .before in
     let a = kind .before .before .before .before .args in
-    let kind-read = was-read (readKind (a .kind) (a .bytes .now)) (kind .before .before .read-kind .ensures) (kind .first .given .1) in
+    let kind-read = was-read (readKind (a .file) (a .bytes .now)) (kind .before .before .read-kind .ensures) (kind .first .given .1) in
     let n-read = was-read (readWithin 2 255 (a .bytes .now) _) (n .before .before .read-within .ensures) (n .second .given .1) in
     let no-r = was-refused (readWithin 2 (min 5 _) (a .bytes .now) _) (rw (r .before .smaller .ensures) at (r .read-within2 .ensures))
     (c .before .before .enum-told3 .given .1) (c .before .refusal-of3 .ensures) in
-    c .refuse3 .ensures ∙ sym (ap baseRead (base-no-r (a .kind) (a .bytes .now) kind-read n-read no-r))
+    c .refuse3 .ensures ∙ sym (ap baseRead (base-no-r (a .file) (a .bytes .now) kind-read n-read no-r))
 
 returns-4 : tie.Need-returns-4
 returns-4 c =
@@ -94,11 +94,11 @@ returns-4 c =
     let n = r .before .before .before in
     let kind = n .before .before .before .before in
     let a = kind .before .before .before .before .args in
-    let kind-read = was-read (readKind (a .kind) (a .bytes .now)) (kind .before .before .read-kind .ensures) (kind .first .given .1) in
+    let kind-read = was-read (readKind (a .file) (a .bytes .now)) (kind .before .before .read-kind .ensures) (kind .first .given .1) in
     let n-read = was-read (readWithin 2 255 (a .bytes .now) _) (n .before .before .read-within .ensures) (n .second .given .1) in
     let r-read = was-read (readWithin 2 (min 5 _) (a .bytes .now) _) (rw (r .before .smaller .ensures) at (r .read-within2 .ensures))
     (c .before .third .given .1) in
-    sym (ap baseRead (base-read (a .kind) (a .bytes .now) kind-read n-read r-read))
+    sym (ap baseRead (base-read (a .file) (a .bytes .now) kind-read n-read r-read))
 
 pub read-base-spec : {M : Type 1} → statement M
 read-base-spec =

@@ -1,5 +1,6 @@
--- `layers_reader::base::read_kind` meets its contract: each return is a case of `readKind`, over what `read_number` ensures. Assumes
--- nothing.
+-- `layers_reader::base::read_kind` meets its contract: each return is a case of `readKind`, over what `read_number` and
+-- `is_kind` ensure. Assumes nothing.
+use mathlib.Core.Path.{sym, _∙_}
 use borrow.Author.Needs.{needs}
 use Rattle.layers_reader.proofs.base.Based.{kind-not-read, kind-is, kind-is-not}
 use Rattle.layers_reader.proofs.base.read_kind.Statement.{statement}
@@ -17,17 +18,22 @@ enum-told c = search needs
 returns : tie.Need-returns
 returns c = kind-not-read _ _ _ (c .before .before .read-number .ensures) (c .enum-told .given .1)
 
+is-kind-requires : tie.Need-is-kind-requires
+is-kind-requires c κs = search needs
+
 returns-2 : tie.Need-returns-2
 returns-2 c =
-    kind-is _ _ _ (c .before .before .before .before .read-number .ensures) (c .before .before .first .given .1)
-    (c .if1 .taken)
+    let m = c .before .before .before in
+    kind-is _ _ _ (m .before .before .read-number .ensures) (m .first .given .1)
+    (sym (c .before .is-kind .ensures) ∙ c .if1 .taken)
 
 returns-3 : tie.Need-returns-3
 returns-3 c =
-    kind-is-not _ _ _ (c .before .before .before .before .read-number .ensures) (c .before .before .first .given .1)
-    (c .if1 .left)
+    let m = c .before .before .before in
+    kind-is-not _ _ _ (m .before .before .read-number .ensures) (m .first .given .1)
+    (sym (c .before .is-kind .ensures) ∙ c .if1 .left)
 
 pub read-kind-spec : {M : Type 1} → statement M
 read-kind-spec =
     tie.close
-    (tie.spec read-number-requires enum-known-first enum-told returns returns-2 returns-3)
+    (tie.spec read-number-requires enum-known-first enum-told returns is-kind-requires returns-2 returns-3)

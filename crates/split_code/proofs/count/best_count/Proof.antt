@@ -1,27 +1,33 @@
 -- `split_code::count::best_count` meets its contract. The loop's invariant: the counts up to `c` were looked at. Assumes nothing.
-use Prim.Native.Nat.{_+_, _*_, _-_, _^_, _≤_, _<_}
-use native.Mathlib.Nat.{le-mul-of-pos-right}
+use Prim.Native.Nat.{_+_, _*_, _-_, _%_, _^_, _≤_, _<_}
+use native.Mathlib.Nat.{le-mul-of-pos-right, mod-lt}
 use mathlib.Core.Path.{_≡_, refl, ap, _∙_}
 use lib.ListN.{getD}
 use Rattle.split.specs.Splits.{noSplit, lastLeast}
-use Rattle.split.specs.Table.{sumAt, stepLoss}
-use Rattle.split.proofs.LayerSteps.{copies-lt, records-lt}
+use Rattle.split.specs.Table.{sumAt, copiesCost, stepLoss}
+use Rattle.split.proofs.LayerSteps.{records-lt}
 use Rattle.split_code.proofs.count.Counting.{Counted, counted-none, counted-more, counted-taken, counted-left}
 use native.Mathlib.Omega.{arith}
 use Rattle.split_code.proofs.count.best_count.Statement.{statement}
 use Rattle.split_code.proofs.count.best_count.Tie as tie
 
 abbrev Inv-loop : tie.InvT-loop
-Inv-loop below left size each copy lost best₀ least₀ copies₀ paid₀ c₀ best least copies paid c =
-    Counted (record { size = size; each = each; copy = copy; lost = lost }) below left best least copies paid c
+Inv-loop below left size each period costs whole best₀ least₀ copies₀ paid₀ c₀ best least copies paid c =
+    Counted (record { size = size; each = each; period = period; costs = costs }) below left best least copies paid c
 
 abbrev μ-loop : tie.MeasureT-loop
-μ-loop below left size each copy lost best₀ least₀ copies₀ paid₀ c₀ best least copies paid c =
+μ-loop below left size each period costs whole best₀ least₀ copies₀ paid₀ c₀ best least copies paid c =
     left - c + (left - copies)
 
 -- where the function starts, as a turn of the loop sees it
 abbrev start : tie.In-loop Inv-loop μ-loop → tie.Start Inv-loop μ-loop
-start c = c .before .before .before .before
+start c = c .before .before .before .before .before
+
+mul-whole : tie.Need-mul-whole Inv-loop μ-loop
+mul-whole c = let h = c .before .before .pre .steps .period-le in omega arith
+
+array-read-whole : tie.Need-array-read-whole Inv-loop μ-loop
+array-read-whole c = let h = c .before .before .pre .steps .period-le in omega arith
 
 mul-least : tie.Need-mul-least Inv-loop μ-loop
 mul-least c = omega arith
@@ -30,10 +36,10 @@ shared-slice-read-least : tie.Need-shared-slice-read-least Inv-loop μ-loop
 shared-slice-read-least c = omega arith
 
 cast-least : tie.Need-cast-least Inv-loop μ-loop
-cast-least c = let s = c .before .before in let h = s .pre .rising .marked (s .args .left) in omega arith
+cast-least c = let s = c .before .before .before in let h = s .pre .rising .marked (s .args .left) in omega arith
 
 loop-holds : tie.Need-loop-holds Inv-loop μ-loop
-loop-holds c = counted-none refl
+loop-holds c = counted-none (c .before .before .before .pre .steps) refl
 
 mul-if1 : tie.Need-mul-if1 Inv-loop μ-loop
 mul-if1 c = let h = c .before .loop .inv .needed in let g = start c .pre .steps .size-le in record { fits = omega arith }
@@ -41,14 +47,45 @@ mul-if1 c = let h = c .before .loop .inv .needed in let g = start c .pre .steps 
 add-copies : tie.Need-add-copies Inv-loop μ-loop
 add-copies c = let h = c .before .before .loop .inv .few in omega arith
 
-mul-paid : tie.Need-mul-paid Inv-loop μ-loop
-mul-paid c =
-    let s = start (c .before) in
+-- where a copy is taken there are at most 4,096
+copies-few : (c : tie.Then1 Inv-loop μ-loop) → c .before .before .loop .copies + 1 ≤ 4_096
+copies-few c =
     let h = c .before .before .loop .inv .few in
-    record { fits = copies-lt (s .args .u) (s .pre .steps) _ (omega arith) }
+    let s = start (c .before) in
+    let g = s .pre .small in
+    let w = s .pre .within in
+    let l = le-mul-of-pos-right (c .before .before .loop .copies) (s .pre .steps .size-pos) in
+    omega (arith, c .if1 .taken, c .before .loop-test .taken)
+
+-- and what they cost fits
+cost-fits : (c : tie.Then1 Inv-loop μ-loop) → copiesCost (start (c .before) .args .u) (c .before .before .loop .copies + 1) < 2 ^ 64
+cost-fits c = start (c .before) .pre .steps .fits _ (copies-few c)
 
 div-paid : tie.Need-div-paid Inv-loop μ-loop
-div-paid c = start (c .before) .pre .steps .lost-pos
+div-paid c = start (c .before) .pre .steps .period-pos
+
+mul-paid : tie.Need-mul-paid Inv-loop μ-loop
+mul-paid c = let h = cost-fits c in record { fits = omega arith }
+
+rem-paid : tie.Need-rem-paid Inv-loop μ-loop
+rem-paid c = start (c .before) .pre .steps .period-pos
+
+-- the copies that are left are fewer than a period
+rest-few : (c : tie.Then1 Inv-loop μ-loop) → (c .before .before .loop .copies + 1) % start (c .before) .args .u .period < 120
+rest-few c =
+    let p = start (c .before) .pre .steps in
+    let h = mod-lt (c .before .before .loop .copies + 1) (p .period-pos) in
+    let l = p .period-le in
+    omega arith
+
+mul-paid-2 : tie.Need-mul-paid-2 Inv-loop μ-loop
+mul-paid-2 c = let h = rest-few c in omega arith
+
+array-read-paid : tie.Need-array-read-paid Inv-loop μ-loop
+array-read-paid c = let h = rest-few c in omega arith
+
+add-paid : tie.Need-add-paid Inv-loop μ-loop
+add-paid c = record { fits = cost-fits c }
 
 loop-less : tie.Need-loop-less Inv-loop μ-loop
 loop-less c =
@@ -67,7 +104,7 @@ add-c c = omega arith
 
 -- in a turn the records cost less than 2^26
 records-small : (c : tie.In-loop Inv-loop μ-loop) → (c .before .loop .c + 1) * start c .args .u .each < 2 ^ 26
-records-small c = let s = start c in records-lt (s .args .u) (s .pre .steps) (c .before .loop .c + 1) (omega arith)
+records-small c = let s = start c in records-lt (s .pre .steps) (c .before .loop .c + 1) (omega arith)
 
 mul-smaller : tie.Need-mul-smaller Inv-loop μ-loop
 mul-smaller c = record { fits = let h = records-small (c .before) in omega arith }
@@ -123,7 +160,7 @@ loop-again-3 c =
 
 returns : tie.Need-returns Inv-loop μ-loop
 returns c =
-    let a = c .before .before .before .before .args in
+    let a = c .before .before .before .before .before .args in
     let l = c .before .loop in
     let e : l .c ≡ a .left = let h = l .inv .within in omega arith in
     l .inv .scan .last-least ∙ ap (lastLeast (sumAt (stepLoss (a .u)) (a .below .now) (a .left))) e
@@ -134,14 +171,20 @@ best-count-spec =
     (tie.spec
     Inv-loop
     μ-loop
+    mul-whole
+    array-read-whole
     mul-least
     shared-slice-read-least
     cast-least
     loop-holds
     mul-if1
     add-copies
-    mul-paid
     div-paid
+    mul-paid
+    rem-paid
+    mul-paid-2
+    array-read-paid
+    add-paid
     loop-less
     loop-again
     add-c

@@ -3,7 +3,7 @@ use Prim.Native.Nat.{_≤_, _-_}
 use native.Mathlib.Nat.{zero-add}
 use mathlib.Core.Path.{_≡_, ap, _∙_}
 use Rattle.split.specs.Working.{lossBelow}
-use Rattle.split.proofs.Parts.{storedTo, stored-none, stored-next, length-stored}
+use Rattle.lists.proofs.Stores.{storedTo, stored-none, stored-next, length-stored}
 use native.Mathlib.Omega.{arith}
 use Rattle.split_table.proofs.base.base_line.Statement.{statement}
 use Rattle.split_table.proofs.base.base_line.Tie as tie

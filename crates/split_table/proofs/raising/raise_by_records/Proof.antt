@@ -10,7 +10,7 @@ use Rattle.split_table.proofs.raising.raise_by_records.Tie as tie
 
 abbrev Inv-loop : tie.InvT-loop
 Inv-loop work₀ at w each from records₀ i₀ work records i =
-    Raised each at w work₀ (stepped 1 1 each (lineUnder at w work₀)) i records work
+    Raised each at w work₀ (stepped 1 each (lineUnder at w work₀)) i records work
 
 abbrev μ-loop : tie.MeasureT-loop
 μ-loop work₀ at w each from records₀ i₀ work records i =

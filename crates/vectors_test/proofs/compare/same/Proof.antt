@@ -5,10 +5,10 @@ use Rattle.vectors_test.proofs.compare.same.Statement.{statement}
 use Rattle.vectors_test.proofs.compare.same.Tie as tie
 
 abbrev Inv-loop : tie.InvT-loop
-Inv-loop a b i₀ i = i ≤ 18
+Inv-loop a b i₀ i = i ≤ 19
 
 abbrev μ-loop : tie.MeasureT-loop
-μ-loop a b i₀ i = 18 - i
+μ-loop a b i₀ i = 19 - i
 
 loop-holds : tie.Need-loop-holds Inv-loop μ-loop
 loop-holds c = search needs

@@ -7,7 +7,7 @@ use Rattle.vectors_test.proofs.script.numbers_in.Statement.{statement}
 use Rattle.vectors_test.proofs.script.numbers_in.Tie as tie
 
 abbrev Inv-loop : tie.InvT-loop
-Inv-loop bytes count numbers₀ i₀ at₀ numbers i at = (i ≤ count) × (at ≡ 4 * i) × (length numbers ≡ 18)
+Inv-loop bytes count numbers₀ i₀ at₀ numbers i at = (i ≤ count) × (at ≡ 4 * i) × (length numbers ≡ 19)
 
 abbrev μ-loop : tie.MeasureT-loop
 μ-loop bytes count numbers₀ i₀ at₀ numbers i at = count - i
