@@ -12,8 +12,9 @@ from pathlib import Path
 
 sys.path.insert(0, str(Path(__file__).resolve().parent.parent / "packings"))
 
+import chunks  # noqa: E402
 import document01 as reference  # noqa: E402
-from cases import NINE, P, SEVEN, check_inputs, in_groups, padded, plan_inputs, random_rows  # noqa: E402
+from cases import NINE, P, SEVEN, check_inputs, in_groups, padded, plan_inputs, random_pack, random_rows  # noqa: E402
 from check_packings import pack_bytes  # noqa: E402
 from constructions import catalogue  # noqa: E402
 from document01 import LARGEST, Refused, numbers  # noqa: E402
@@ -97,6 +98,18 @@ def call_curve(script, entries):
         return
     written = b"".join(f.to_bytes(2, "little") for f in figures)
     script.call("curve", [], [0, len(figures)], room=2 * entries, written=written, work=entries, free=len(figures))
+
+
+def call_join(script, packs, room):
+    """The packs stand one after another in the input; their number and the places where the first two end are given."""
+    script.read(b"".join(packs))
+    ends = [sum(map(len, packs[:i + 1])) for i in range(len(packs) - 1)]
+    try:
+        data = chunks.join(packs, room)
+    except Refused as e:
+        script.call("join", [len(packs), *ends], [e.number, e.place], room=room)
+        return
+    script.call("join", [len(packs), *ends], [0, len(data)], room=room, written=data)
 
 
 def reply_kind(reply):
@@ -212,6 +225,49 @@ def curve_vectors(script):
             call_curve(script, lent)
 
 
+def pair_pack(n, mu, m, layer=0):
+    """A pack of r = 2 with m rows 0 1 in one layer."""
+    heads = [(1, 0), (1, 0)]
+    heads[layer] = (mu, m)
+    return numbers(1, n, 2, *(v for head in heads for v in head)) + bytes([0, 1]) * m
+
+
+def join_vectors(script):
+    """Random packs of one r or of any, bad ones in every place; the limits on both sides; outputs at their edges."""
+    draw = random.Random(52)
+    packs = [random_pack(draw) for _ in range(120)] + [(7, 3, P)] * 3
+    bad = [P[:-1], P + b"\0", b"", NINE, P[:27] + bytes([6]) + P[28:], P[:35] + bytes([6])]
+    for i in range(240):
+        r = draw.choice([2, 3, 4, 5])
+        alike = [data for _, own, data in packs if own == r] or [P]
+        files = [draw.choice(alike) for _ in range(1 + i % 3)]
+        if i % 8 == 7:
+            files[draw.randrange(len(files))] = draw.choice(packs)[2]
+        if i % 8 == 3:
+            files[draw.randrange(len(files))] = draw.choice(bad)
+        try:
+            size = len(chunks.join(files))
+        except Refused:
+            call_join(script, files, draw.choice([0, 64, OUTPUT_MOST]))
+            continue
+        if size < OUTPUT_MOST:
+            for room in (size, size + 3, size - 1, 0):
+                call_join(script, files, room)
+    for first in bad:
+        for second in bad:
+            call_join(script, [first, second], 100)
+            call_join(script, [P, first, second], 100)
+    full = pair_pack(255, 4_096, 4_096)
+    for files in ([pair_pack(127, 1, 0), pair_pack(128, 1, 0)], [pair_pack(128, 1, 0), pair_pack(128, 1, 0)], [full], [full] * 2, [full] * 3,
+                  [pair_pack(2, 2_048, 2_048)] * 2, [pair_pack(2, 2_048, 2_048), pair_pack(2, 2_048, 2_048), pair_pack(2, 1, 0)],
+                  [pair_pack(2, 2_048, 2_048), pair_pack(2, 2_049, 2_049)], [pair_pack(2, 2_048, 2_048), pair_pack(2, 2_048, 2_047), pair_pack(2, 2_048, 1)],
+                  [pair_pack(2, 2_048, 2_048)] * 2 + [pair_pack(2, 1, 1, 1)], [pair_pack(2, 4_096, 1)] * 3, [pair_pack(2, 64, 1), pair_pack(2, 63, 1)],
+                  [pair_pack(2, 64, 1), pair_pack(2, 65, 1)], [pair_pack(2, 4_096, 1), pair_pack(2, 3, 1)], [pair_pack(2, 4_096, 0), pair_pack(2, 3, 1)],
+                  [pair_pack(2, 4_095, 1), pair_pack(2, 4_093, 1), pair_pack(2, 4_091, 1)], [pair_pack(85, 6, 4), pair_pack(85, 10, 9), pair_pack(85, 15, 8)],
+                  [pair_pack(85, 6, 4), pair_pack(86, 10, 9), pair_pack(85, 15, 8)], [P, P, P], [P, P], [P]):
+        call_join(script, files, OUTPUT_MOST)
+
+
 def plan_edges(script, s, k, b, r):
     """Lent slices that are just long enough, longer, and one short."""
     work, room = s * (b + 1), 64 + b * r
@@ -322,7 +378,7 @@ def padded_vectors(script):
 
 def script_of_all():
     script = Script()
-    for vectors in (number_vectors, small_files, placement_vectors, curve_vectors, plan_vectors, padded_vectors,
+    for vectors in (number_vectors, small_files, placement_vectors, curve_vectors, join_vectors, plan_vectors, padded_vectors,
                     crowding_vectors, published_vectors):
         vectors(script)
     return script

@@ -1,17 +1,18 @@
 -- The rows of layers one after another, and the layers that they are taken apart into. Assumes nothing.
-use Prim.Native.Nat.{ℕ, _+_, _*_, _≤_}
+use Prim.Native.Nat.{ℕ, zero, suc, _+_, _*_, _≤_}
 use native.Mathlib.Omega.{arith}
 use native.Mathlib.Nat.{zero-mul}
-use mathlib.Core.Path.{_≡_, refl}
+use mathlib.Core.Path.{_≡_, refl, _∙_}
 use mathlib.Core.List.{List, [], _∷_, _++_, flatten, append-assoc}
-use lib.ListN.{length, take, drop, length-drop}
-use lib.Seq.{take-add, drop-at}
+use lib.ListN.{length, getD, take, drop, length-drop}
+use lib.Seq.{take-add, drop-at, drop-drop}
 use Rattle.lists.specs.Lists.{All, total}
 use Rattle.lists.proofs.Alls.{all-append, all-append-left, all-append-right, length-flatten}
 use Rattle.lists.proofs.Counts.{flatten-append}
 use Rattle.packing.specs.Rows.{rowsAt}
 use Rattle.packing.proofs.RowsAt.{length-rowsAt, flatten-rowsAt, rowsAt-lengths, rowsAt-flatten}
-use Rattle.layers.specs.Layers.{Layer, sizes, allRows, headsOf, layersAt}
+use Rattle.layers.specs.Answers.{noHead}
+use Rattle.layers.specs.Layers.{Layer, blocksAt, sizes, allRows, headsOf, layersAt}
 use Rattle.layers.specs.declared.LayerHead.{LayerHead}
 
 pub headsOf-layersAt : (r : ℕ) (heads : List LayerHead) (s : List ℕ) → headsOf (layersAt r heads s) ≡ heads
@@ -65,3 +66,14 @@ layersAt-flatten r (layer ∷ layers) t h =
       drop-at (flatten (layer .rows)) after (length (layer .rows) * r) (length-flatten r (layer .rows) first),
       layersAt-flatten r layers t rest,
     )
+
+-- the blocks of layer x begin after those of the layers below it
+pub blocksAt-layersAt : (r : ℕ) (heads : List LayerHead) (s : List ℕ) (x : ℕ)
+    → blocksAt (layersAt r heads s) x .rows ≡ rowsAt r (getD heads x noHead .size) (drop (sizes (take x heads) * r) s)
+unfolding layersAt total rowsAt
+blocksAt-layersAt r [] s x = refl
+blocksAt-layersAt r (head ∷ heads) s zero = rw (zero-mul r)
+blocksAt-layersAt r (head ∷ heads) s (suc x) =
+    let e : head .size * r + sizes (take x heads) * r ≡ (head .size + sizes (take x heads)) * r = omega arith in
+    blocksAt-layersAt r heads (drop (head .size * r) s) x
+    ∙ rw (drop-drop (sizes (take x heads) * r) (head .size * r) s, e)

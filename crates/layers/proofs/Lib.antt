@@ -12,3 +12,5 @@ pub mod Answered
 pub mod Meaning
 pub mod KindMeaning
 pub mod Padding
+pub mod Each
+pub mod HeadNumbers

@@ -4,7 +4,7 @@ use mathlib.Core.Path.{_≡_}
 use mathlib.Core.Bool.{Bool, true, false, _||_}
 use mathlib.Core.List.{List, [], _∷_, _++_, map, flatten}
 use mathlib.Core.Option.{Option, none, some}
-use lib.ListN.{length, drop}
+use lib.ListN.{length, drop, getD}
 use lib.Dec.{leb, eqb}
 use Rattle.lists.specs.Lists.{total}
 use Rattle.refusal.specs.declared.Refusal.the-variants.{WrongKind, Ended, Trailing, BadRow, Crowded}
@@ -23,6 +23,10 @@ use Rattle.layers.specs.declared.LayerLimits.{LayerLimits}
 pub record Layer : Type 0 where
   pub bound : ℕ
   pub rows : List (List ℕ)
+
+-- layer x; none where there is no such layer
+abbrev pub blocksAt : List Layer → ℕ → Layer
+blocksAt layers x = getD layers x (record { bound = 0; rows = [] })
 
 -- "layer by layer": the rows of all layers in the file's order
 abbrev pub allRows : List Layer → List (List ℕ)

@@ -7,7 +7,7 @@ use lib.ListN.{length, drop, getD}
 use lib.Dec.{T}
 use Rattle.lists.specs.Lists.{All}
 use Rattle.refusal.specs.declared.Refusal.{Refusal}
-use Rattle.refusal.specs.declared.Refusal.the-variants.{Ended, Malformed, WrongKind, OutsideLimits, Trailing, BadRow, Crowded, WrongFigure, NoBlock, ShortWork, ShortOutput, BadOrder}
+use Rattle.refusal.specs.declared.Refusal.the-variants.{Ended, Malformed, WrongKind, OutsideLimits, Trailing, BadRow, Crowded, WrongFigure, NoBlock, ShortWork, ShortOutput, BadOrder, Unjoinable}
 use Rattle.refusal.specs.Checked.{accepted}
 use Rattle.number.specs.Numbers.{readNumber}
 use Rattle.number.specs.declared.Reading.{Reading}
@@ -77,3 +77,4 @@ module _ (base : Base) (heads : List LayerHead) (s : List ℕ) (at : ℕ) where
   RowsRefused (ShortWork p) = ⊥
   RowsRefused (ShortOutput p) = ⊥
   RowsRefused (BadOrder p) = ⊥
+  RowsRefused Unjoinable = ⊥

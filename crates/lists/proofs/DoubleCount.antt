@@ -8,6 +8,7 @@ use mathlib.Core.List.{List, [], _∷_}
 use lib.Dec.{T, eqb, eqb→eq}
 use borrow.Author.Tests.{ne-eqb, eqb-true, eqb-false}
 use Rattle.lists.specs.Lists.{All, tally, count, upTo}
+use Rattle.lists.proofs.Tests.{T-not-false}
 use Rattle.lists.proofs.Counts.{tally-mono}
 use Rattle.lists.proofs.CountUpTo.{count-upTo-suc}
 
@@ -26,6 +27,12 @@ module _ {A : Type 0} where
       go : (b : Bool) → (T b → ⊥) → count f l ≡ 0 → tally b (count f l) ≡ 0
       go true n e = absurd (n tt)
       go false n e = e
+
+  -- where none of the list's elements passes
+  pub count-none-all : (f : A → Bool) (l : List A) → All (λ a. T (f a) → ⊥) l → count f l ≡ 0
+  unfolding count
+  count-none-all f [] h = refl
+  count-none-all f (a ∷ l) h = rw (T-not-false (f a) (h .0)) (count-none-all f l (h .1))
 
 module _ {A B : Type 0} (R : A → B → Bool) where
   -- how many pairs of an element of each list are related

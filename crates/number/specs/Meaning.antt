@@ -5,7 +5,7 @@ use mathlib.Core.Logic.{_⊎_}
 use mathlib.Core.List.{List}
 use lib.ListN.{length, getD}
 use Rattle.refusal.specs.declared.Refusal.{Refusal}
-use Rattle.refusal.specs.declared.Refusal.the-variants.{Ended, Malformed, WrongKind, OutsideLimits, Trailing, BadRow, Crowded, WrongFigure, NoBlock, ShortWork, ShortOutput, BadOrder}
+use Rattle.refusal.specs.declared.Refusal.the-variants.{Ended, Malformed, WrongKind, OutsideLimits, Trailing, BadRow, Crowded, WrongFigure, NoBlock, ShortWork, ShortOutput, BadOrder, Unjoinable}
 use Rattle.refusal.specs.Checked.{accepted}
 use Rattle.number.specs.Numbers.{readNumber}
 use Rattle.number.specs.declared.Reading.{Reading}
@@ -30,6 +30,7 @@ NumberRefused s at NoBlock = ⊥
 NumberRefused s at (ShortWork p) = ⊥
 NumberRefused s at (ShortOutput p) = ⊥
 NumberRefused s at (BadOrder p) = ⊥
+NumberRefused s at Unjoinable = ⊥
 
 -- A number of a head is checked "for 1, 2, then .. 4": "a number outside its limits", at "the number's start"
 abbrev pub WithinRefused : (lo hi : ℕ) → List ℕ → (at : ℕ) → Refusal → Type 0

@@ -3,3 +3,4 @@ pub mod Prefix
 pub mod Worked
 pub mod Meaning
 pub mod Padding
+pub mod Written

@@ -2,10 +2,11 @@
 use Prim.Native.Nat.{ℕ, _≤_}
 use mathlib.Core.Path.{_≡_}
 use mathlib.Core.Bool.{false}
-use mathlib.Core.List.{List, [], _∷_}
+use mathlib.Core.List.{List, [], _∷_, _++_, flatten}
 use lib.ListN.{length}
 use Rattle.lists.specs.Lists.{All}
 use Rattle.refusal.specs.Checked.{Checked, accepted, _>>=_, mapAccepted}
+use Rattle.number.specs.Numbers.{formsOf}
 use Rattle.packing.specs.Rows.{Row}
 use Rattle.layers.specs.Layers.{Layer, allRows, Packings, headsOf, headNumbers, sizes, File, Located, BaseLimits, readBase, readLayers, checkRows}
 use Rattle.layers.specs.declared.FileKind.the-variants.{Pack as PackKind}
@@ -20,6 +21,10 @@ pub record Pack : Type 0 where
 -- "The number 1; n; r; for each x from 0 to r-1 the numbers mu .. and m"
 abbrev pub packNumbers : Pack → List ℕ
 packNumbers p = 1 ∷ p .n ∷ p .r ∷ headNumbers (headsOf (p .layers))
+
+-- a pack as a file: each number in its shortest form, then the blocks
+unfoldable pub bytesOfPack : Pack → List ℕ
+bytesOfPack p = formsOf (packNumbers p) ++ flatten (allRows (p .layers))
 
 -- "then m rows (blocks) for x = 0, m for x = 1, and so on; then the end"
 abbrev pub PackFile : Pack → List ℕ → Type 0

@@ -1,32 +1,21 @@
 -- A good placement's bytes are its file, and at most 64 of them stand before the rows. Assumes nothing.
-use Prim.Native.Nat.{ℕ, _+_, _*_, _≤_, _<_}
+use Prim.Native.Nat.{_+_, _*_, _≤_, _<_}
 use native.Mathlib.Omega.{arith}
 use mathlib.Core.Path.{_≡_, refl, sym, _∙_, ap}
 use mathlib.Core.Logic.{⊎-elim}
-use mathlib.Core.List.{List, [], _++_, flatten, append-nil}
+use mathlib.Core.List.{[], _++_, flatten, append-nil}
 use lib.ListN.{length, length-append}
-use lib.Dec.{T, ltb, ltb→lt}
-use Rattle.lists.specs.Lists.{All, every}
-use Rattle.lists.proofs.Alls.{all-append, all-imp, all-flatten, every-all, length-flatten}
-use Rattle.lists.proofs.Tests.{and-right}
+use Rattle.lists.specs.Lists.{All}
+use Rattle.lists.proofs.Alls.{all-append, all-imp, all-flatten, length-flatten}
 use Rattle.number.specs.Numbers.{Bytes, largestNumber, formsOf}
 use Rattle.number.proofs.Laws.{numberBytes-length-one, numberBytes-length-le-two}
 use Rattle.number.proofs.Forms.{forms-of, forms-bytes}
-use Rattle.packing.specs.Rows.{Row, ascending}
 use Rattle.layers.specs.Layers.{allRows}
 use Rattle.layers.proofs.KindMeaning.{placement-kinds}
+use Rattle.layers.proofs.Each.{row-bytes}
 use Rattle.layers.proofs.Lengths.{length-allRows, length-headNumbers, headNumbers-most}
 use Rattle.placement.specs.Figure.{figureOf}
 use Rattle.placement.specs.Placement.{Placement, GoodPlacement, placementNumbers, PlacementFile, placementBytes}
-
--- a row's nodes are bytes
-row-bytes : (n r : ℕ) → n ≤ 255 → (row : List ℕ) → Row n r row → Bytes row
-row-bytes n r small row h =
-    all-imp (λ v. T (ltb v n)) (λ v. v < 256) (λ v t. below v (ltb→lt v n t)) row
-    (every-all (λ v. ltb v n) row (and-right (ascending 0 row) (every (λ v. ltb v n) row) (h .1)))
-  where
-    below : (v : ℕ) → v < n → v < 256
-    below v lt = omega arith
 
 module _ (p : Placement) (good : GoodPlacement p) where
   -- "F (0..b)"

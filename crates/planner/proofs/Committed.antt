@@ -15,7 +15,7 @@ use Rattle.refusal.specs.Checked.{accepted}
 use Rattle.number.specs.Numbers.{formsOf, largestNumber}
 use Rattle.number.proofs.Forms.{forms-most}
 use Rattle.packing.specs.Rows.{repeated}
-use Rattle.layers.specs.Layers.{Layer, allRows, headsOf, sizes}
+use Rattle.layers.specs.Layers.{Layer, blocksAt, allRows, headsOf, sizes}
 use Rattle.layers.specs.Answers.{noHead, fiveHeads}
 use Rattle.layers.specs.declared.Base.{Base}
 use Rattle.layers.specs.declared.LayerHead.{LayerHead}
@@ -29,7 +29,7 @@ use Rattle.placement.proofs.Written.{written-file, written-length}
 use Rattle.split.specs.Splits.{Share, layerAt, shareHead, splitHeads, countsSplit}
 use Rattle.split.proofs.Bounds.{copiesFor-mul-bound-le}
 use Rattle.split.proofs.Heads.{length-splitHeads, split-count-le}
-use Rattle.planner.specs.Planning.{blocksAt, placed, splitPlacement, outputNeeded, outputAfter}
+use Rattle.planner.specs.Planning.{placed, splitPlacement, outputNeeded, outputAfter}
 use Rattle.planner.specs.Answers.{planAnswer}
 use Rattle.planner.specs.declared.PlanAnswer.the-variants.{Planned}
 use Rattle.planner.specs.Writing.{heldLayers, heldPack, countsPlacement, writtenNumbers, rowsBelow, Writable, SharesFit, RowsFit}

@@ -2,11 +2,11 @@
 use Prim.Native.Nat.{ℕ, zero, suc, _+_, _*_, _-_, _≤_, _<_}
 use native.Mathlib.Omega.{arith}
 use native.Mathlib.Numerals.{add-one}
-use native.Mathlib.Nat.{le-refl, mul-le-mul, zero-mul}
+use native.Mathlib.Nat.{le-refl, mul-le-mul}
 use mathlib.Core.Path.{_≡_, refl, sym, _∙_, ap}
 use mathlib.Core.List.{List, [], _∷_, _++_, flatten, map, append-nil}
 use lib.ListN.{length, take, drop, length-append, length-drop}
-use lib.Seq.{drop-drop, take-take, getD-take}
+use lib.Seq.{take-take, getD-take}
 use Rattle.lists.proofs.Alls.{length-flatten}
 use Rattle.lists.specs.Lists.{total, upTo, overStart}
 use Rattle.lists.proofs.Counts.{flatten-append}
@@ -15,24 +15,12 @@ use Rattle.lists.proofs.Writing.{givenBack, take-drop-rest, write-part}
 use Rattle.packing.specs.Rows.{rowsAt, repeated}
 use Rattle.packing.proofs.Copies.{repeated-rows, length-repeated}
 use Rattle.packing.proofs.RowsAt.{length-rowsAt, rowsAt-lengths}
-use Rattle.layers.specs.Layers.{Layer, sizes, headsOf, layersAt}
+use Rattle.layers.specs.Layers.{Layer, blocksAt, sizes, headsOf}
 use Rattle.layers.specs.declared.LayerHead.{LayerHead}
 use Rattle.layers.proofs.Arrays.{sizes-take-suc, sizes-take-le}
-use Rattle.layers.proofs.Layouts.{headsOf-layersAt}
+use Rattle.layers.proofs.Layouts.{headsOf-layersAt, blocksAt-layersAt}
 use Rattle.split.specs.Splits.{layerAt}
-use Rattle.planner.specs.Planning.{blocksAt}
 use Rattle.planner.specs.Writing.{heldLayers, rowsBelow, RowsFit}
-
--- the blocks of layer x begin after those of the layers below it
-blocksAt-layersAt : (r : ℕ) (heads : List LayerHead) (s : List ℕ) (x : ℕ)
-    → blocksAt (layersAt r heads s) x .rows ≡ rowsAt r (layerAt heads x .size) (drop (sizes (take x heads) * r) s)
-unfolding layersAt total rowsAt
-blocksAt-layersAt r [] s x = refl
-blocksAt-layersAt r (head ∷ heads) s zero = rw (zero-mul r)
-blocksAt-layersAt r (head ∷ heads) s (suc x) =
-    let e : head .size * r + sizes (take x heads) * r ≡ (head .size + sizes (take x heads)) * r = omega arith in
-    blocksAt-layersAt r heads (drop (head .size * r) s) x
-    ∙ rw (drop-drop (sizes (take x heads) * r) (head .size * r) s, e)
 
 -- layer x below r of the code's five: its two numbers, and its blocks
 module _ (r : ℕ) (layers : List LayerHead) (blocks : List ℕ) (x : ℕ) (h : x < r) where

@@ -1,53 +1,23 @@
 -- The placement of a split of an accepted pack is one that document 01 accepts. Assumes nothing.
-use Prim.Native.Nat.{ℕ, zero, suc, _+_, _*_, _≤_, _<_, suc-le-suc}
+use Prim.Native.Nat.{ℕ, _+_, _*_, _≤_, _<_}
 use native.Mathlib.Omega.{arith}
-use native.Mathlib.Nat.{not-suc-le-zero, le-of-suc-le-suc, zero-lt-suc, add-zero, suc-add, add-suc}
-use mathlib.Core.Path.{_≡_, refl, sym, _∙_, ap, subst}
-use mathlib.Core.List.{List, [], _∷_, map, map-map, flatten}
+use mathlib.Core.Path.{_≡_, sym, _∙_, ap, subst}
+use mathlib.Core.List.{[], map, map-map}
 use lib.ListN.{length}
 use Rattle.lists.specs.Lists.{All, upTo}
-use Rattle.lists.proofs.Alls.{all-append-left, all-append-right, all-map, all-flatten}
+use Rattle.lists.proofs.Alls.{all-map, all-flatten}
 use Rattle.lists.proofs.UpTo.{length-map-upTo, all-upTo, getD-map-upTo, map-upTo-congr}
 use Rattle.packing.specs.Rows.{Row, Packing}
 use Rattle.packing.proofs.Copies.{copies-packing, repeated-rows, length-repeated}
-use Rattle.layers.specs.Layers.{Layer, allRows, headOf, headsOf, Packings}
+use Rattle.layers.specs.Layers.{Layer, blocksAt, allRows, headOf, headsOf, Packings}
+use Rattle.layers.proofs.Each.{layer-rows, headOf-blocksAt, packing-at, packings-from}
 use Rattle.pack.specs.Pack.{Pack, GoodPack}
 use Rattle.placement.specs.Figure.{figureOf}
 use Rattle.placement.specs.declared.Rule.the-variants.{NestedFloors}
 use Rattle.placement.specs.Placement.{OrderLimits, PlacementLimits, GoodPlacement}
 use Rattle.split.specs.Splits.{Share, layerAt, shareHead, splitHeads, Split}
 use Rattle.split.proofs.Heads.{splitHeads-congr}
-use Rattle.planner.specs.Planning.{blocksAt, placed, splitPlacement}
-
--- what holds of all rows holds of one layer's
-layer-rows : (P : List ℕ → Type 0) (layers : List Layer) (x : ℕ) → All P (allRows layers) → All P (blocksAt layers x .rows)
-unfolding flatten
-layer-rows P [] x h = tt
-layer-rows P (layer ∷ layers) zero h = all-append-left P (layer .rows) (allRows layers) h
-layer-rows P (layer ∷ layers) (suc x) h = layer-rows P layers x (all-append-right P (layer .rows) (allRows layers) h)
-
--- layer x's two numbers
-pub layerAt-heads : (layers : List Layer) (x : ℕ)
-    → layerAt (headsOf layers) x ≡ headOf (blocksAt layers x)
-layerAt-heads [] x = refl
-layerAt-heads (layer ∷ layers) zero = refl
-layerAt-heads (layer ∷ layers) (suc x) = layerAt-heads layers x
-
--- the packings of the layers from o on, layer by layer
-packing-at : (o : ℕ) (layers : List Layer) (x : ℕ) → x < length layers → Packings o layers
-    → Packing (o + x) (blocksAt layers x .bound) (blocksAt layers x .rows)
-packing-at o [] x lt h = absurd (not-suc-le-zero lt)
-packing-at o (layer ∷ layers) zero lt h = rw (add-zero o) (h .0)
-packing-at o (layer ∷ layers) (suc x) lt h =
-    rw (add-suc o x, ← suc-add o x) (packing-at (suc o) layers x (le-of-suc-le-suc lt) (h .1))
-
-packings-from : (o : ℕ) (layers : List Layer)
-    → ((x : ℕ) → x < length layers → Packing (o + x) (blocksAt layers x .bound) (blocksAt layers x .rows)) → Packings o layers
-packings-from o [] h = tt
-packings-from o (layer ∷ layers) h = (
-  rw (add-zero o) at (h zero (zero-lt-suc _)),
-  packings-from (suc o) layers (λ x lt. rw (suc-add o x, ← add-suc o x) (h (suc x) (suc-le-suc lt))),
-)
+use Rattle.planner.specs.Planning.{placed, splitPlacement}
 
 module _ (pack : Pack) (s k b : ℕ) (split : ℕ → Share) where
   -- layer x of the split's placement
@@ -55,7 +25,7 @@ module _ (pack : Pack) (s k b : ℕ) (split : ℕ → Share) where
   placedAt x = placed (blocksAt (pack .layers) x) (split x)
 
   placed-head : (x : ℕ) → headOf (placedAt x) ≡ shareHead (layerAt (headsOf (pack .layers)) x) (split x)
-  placed-head x = rw (length-repeated (blocksAt (pack .layers) x .rows) (split x .count), layerAt-heads (pack .layers) x)
+  placed-head x = rw (length-repeated (blocksAt (pack .layers) x .rows) (split x .count), headOf-blocksAt (pack .layers) x)
 
   -- the placement's head numbers are the split's
   pub heads-placed : headsOf (map placedAt (upTo s)) ≡ splitHeads (headsOf (pack .layers)) s split
@@ -65,7 +35,7 @@ module _ (pack : Pack) (s k b : ℕ) (split : ℕ → Share) where
   module _ (good : GoodPack pack) (order : OrderLimits (pack .n) (pack .r) (record { s = s; k = k; b = b })) (is : Split (headsOf (pack .layers)) s b split)
       (lambdas : (x : ℕ) → x < s → split x .copies * layerAt (headsOf (pack .layers)) x .bound ≤ 16_777_216) where
     held : (x : ℕ) → x < s → split x .count ≤ split x .copies * length (blocksAt (pack .layers) x .rows)
-    held x lt = rw (layerAt-heads (pack .layers) x) at (is .held x lt)
+    held x lt = rw (headOf-blocksAt (pack .layers) x) at (is .held x lt)
 
     placed-limits : PlacementLimits (splitPlacement pack s k b split)
     unfolding splitPlacement
@@ -75,7 +45,7 @@ module _ (pack : Pack) (s k b : ℕ) (split : ℕ → Share) where
           base = good .limits .base;
           order = order;
           layer-each = length-map-upTo placedAt s;
-          lambda-most = all-map _ placedAt (upTo s) (all-upTo _ s (λ x lt. rw (layerAt-heads (pack .layers) x) at (lambdas x lt)));
+          lambda-most = all-map _ placedAt (upTo s) (all-upTo _ s (λ x lt. rw (headOf-blocksAt (pack .layers) x) at (lambdas x lt)));
           records-all = rw heads-placed (is .sum);
         }
 

@@ -12,7 +12,8 @@ use Rattle.lists.proofs.Alls.{all-imp, all-getD-default}
 use Rattle.refusal.specs.Checked.{accepted}
 use Rattle.refusal.proofs.Checked.{accepted-injective, bind-elim, bind-congr, mapAccepted-accepted}
 use Rattle.packing.specs.Failures.{Failure, usable}
-use Rattle.layers.specs.Layers.{Layer, allRows, headsOf}
+use Rattle.layers.specs.Layers.{Layer, blocksAt, allRows, headsOf}
+use Rattle.layers.proofs.Each.{headOf-blocksAt}
 use Rattle.pack.specs.Pack.{Pack, GoodPack, readPack, checkPack}
 use Rattle.pack.proofs.Accepted.{read-of-pack}
 use Rattle.placement.specs.Placement.{Placement, OrderLimits, GoodPlacement, checkPlacement, placementBytes}
@@ -25,8 +26,8 @@ use Rattle.split.specs.Splits.{Share, layerAt, hasBlock, namedSplit}
 use Rattle.split.proofs.Named.{namedSplit-is-split}
 use Rattle.split.proofs.Bounds.{named-lambda-le}
 use Rattle.planner.proofs.Checks.{order-within, work-good, output-good, plan-fitting, planned-fits}
-use Rattle.planner.proofs.Placed.{layerAt-heads, placed-good}
-use Rattle.planner.specs.Planning.{blocksAt, splitPlacement, namedPlacement, checkOrder, checkBlocks, planPack, plan, workNeeded, outputNeeded, workMost, outputMost}
+use Rattle.planner.proofs.Placed.{placed-good}
+use Rattle.planner.specs.Planning.{splitPlacement, namedPlacement, checkOrder, checkBlocks, planPack, plan, workNeeded, outputNeeded, workMost, outputMost}
 
 -- an accepted pack is good
 pub accepted-good : (bytes : List ℕ) (pack : Pack) → checkPack bytes ≡ accepted pack → GoodPack pack
@@ -101,7 +102,7 @@ module _ (bytes : List ℕ) (pack : Pack) (is-pack : checkPack bytes ≡ accepte
   named-lambdas : (x : ℕ) → x < order .s → split x .copies * layerAt (headsOf (pack .layers)) x .bound ≤ 16_777_216
   named-lambdas x lt =
       named-lambda-le NestedFloors (headsOf (pack .layers)) (order .s) (order .k) (order .b) (within .b-most) block x lt
-      (rw (layerAt-heads (pack .layers) x) (mu-most (pack .layers) x (good .limits .mu-limits)))
+      (rw (headOf-blocksAt (pack .layers) x) (mu-most (pack .layers) x (good .limits .mu-limits)))
 
   -- what the planner writes is a good placement
   pub plan-good : GoodPlacement placement

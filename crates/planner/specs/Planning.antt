@@ -2,24 +2,20 @@
 use Prim.Native.Nat.{ℕ, suc, _+_, _*_, _≤_}
 use mathlib.Core.Path.{_≡_}
 use mathlib.Core.Bool.{_&&_}
-use mathlib.Core.List.{List, [], map}
-use lib.ListN.{length, getD, drop}
+use mathlib.Core.List.{List, map}
+use lib.ListN.{length, drop}
 use lib.Dec.{T, leb, ltb}
 use Rattle.lists.specs.Lists.{upTo}
 use Rattle.refusal.specs.declared.Refusal.the-variants.{BadOrder, NoBlock, ShortWork, ShortOutput}
 use Rattle.refusal.specs.Checked.{Checked, accepted, refused, _>>=_, require, mapAccepted, written}
 use Rattle.packing.specs.Rows.{repeated}
-use Rattle.layers.specs.Layers.{Layer, headsOf}
+use Rattle.layers.specs.Layers.{Layer, blocksAt, headsOf}
 use Rattle.layers.specs.declared.LayerHead.{LayerHead}
 use Rattle.pack.specs.Pack.{Pack, checkPack}
 use Rattle.placement.specs.Placement.{Placement, OrderLimits, placementBytes}
 use Rattle.placement.specs.declared.Rule.the-variants.{NestedFloors}
 use Rattle.placement.specs.declared.Order.{Order}
 use Rattle.split.specs.Splits.{Share, splitFigure, hasBlock, namedSplit}
-
--- layer x of a pack; none where there is no such layer
-abbrev pub blocksAt : List Layer → ℕ → Layer
-blocksAt layers x = getD layers x (record { bound = 0; rows = [] })
 
 -- one layer of a split's placement: "its lambda is d × mu"
 abbrev pub placed : Layer → Share → Layer

@@ -4,14 +4,14 @@ use mathlib.Core.List.{List, _∷_, map, flatten}
 use lib.ListN.{length, getD, take}
 use Rattle.lists.specs.Lists.{upTo}
 use Rattle.packing.specs.Rows.{repeated}
-use Rattle.layers.specs.Layers.{Layer, sizes, headsOf, headNumbers, layersAt}
+use Rattle.layers.specs.Layers.{Layer, blocksAt, sizes, headsOf, headNumbers, layersAt}
 use Rattle.layers.specs.declared.Base.{Base}
 use Rattle.layers.specs.declared.LayerHead.{LayerHead}
 use Rattle.pack.specs.Pack.{Pack, GoodPack}
 use Rattle.placement.specs.Placement.{Placement, OrderLimits}
 use Rattle.placement.specs.declared.Order.{Order}
 use Rattle.split.specs.Splits.{Split, layerAt, countsSplit}
-use Rattle.planner.specs.Planning.{blocksAt, splitPlacement}
+use Rattle.planner.specs.Planning.{splitPlacement}
 
 -- the layers below r, of the code's five, whose blocks the bytes begin with
 abbrev pub heldLayers : (r : ℕ) (layers : List LayerHead) (blocks : List ℕ) → List Layer

@@ -11,7 +11,7 @@ use Rattle.lists.proofs.UpTo.{map-upTo-congr, map-getD-upTo}
 use Rattle.refusal.specs.declared.Refusal.{Refusal}
 use Rattle.refusal.specs.Checked.{Checked, accepted, refused}
 use Rattle.packing.proofs.Copies.{length-repeated}
-use Rattle.layers.specs.Layers.{Layer, sizes, headsOf}
+use Rattle.layers.specs.Layers.{Layer, blocksAt, sizes, headsOf}
 use Rattle.layers.specs.Answers.{five}
 use Rattle.layers.specs.declared.Base.{Base}
 use Rattle.layers.specs.declared.LayerHead.{LayerHead}
@@ -27,7 +27,7 @@ use Rattle.split.proofs.Arrays.{namedCounts-congr}
 use Rattle.split.proofs.Heads.{splitHeads-congr}
 use Rattle.split.proofs.Named.{namedSplit-is-split}
 use Rattle.split.proofs.NamedCounts.{length-namedCounts}
-use Rattle.planner.specs.Planning.{Fits, blocksAt, placed, splitPlacement, namedPlacement, outputAfter}
+use Rattle.planner.specs.Planning.{Fits, placed, splitPlacement, namedPlacement, outputAfter}
 use Rattle.planner.specs.Answers.{planAnswer, PlanDone}
 use Rattle.planner.specs.Writing.{heldPack, countsPlacement, Writable, PackHeld}
 use Rattle.planner.specs.declared.PlanAnswer.{PlanAnswer}

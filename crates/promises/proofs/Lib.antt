@@ -8,3 +8,4 @@ pub mod Requests
 pub mod RequestC
 pub mod RequestD
 pub mod Starred
+pub mod RequestE

@@ -2,7 +2,7 @@
 use Prim.Native.Nat.{ℕ}
 use mathlib.Core.List.{List}
 use Rattle.refusal.specs.declared.Refusal.{Refusal}
-use Rattle.refusal.specs.declared.Refusal.the-variants.{Ended, Malformed, WrongKind, OutsideLimits, Trailing, BadRow, Crowded, WrongFigure, NoBlock, ShortWork, ShortOutput, BadOrder}
+use Rattle.refusal.specs.declared.Refusal.the-variants.{Ended, Malformed, WrongKind, OutsideLimits, Trailing, BadRow, Crowded, WrongFigure, NoBlock, ShortWork, ShortOutput, BadOrder, Unjoinable}
 
 -- the table's column "returned"
 abbrev pub numberOf : Refusal → ℕ
@@ -18,6 +18,8 @@ numberOf NoBlock = 9
 numberOf (ShortWork p) = 10
 numberOf (ShortOutput p) = 11
 numberOf (BadOrder p) = 12
+-- request (e): "13 if r differs or if joined nodes, rows or a mu pass document 01's limits"
+numberOf Unjoinable = 13
 
 -- the table's column "place"
 abbrev pub placeOf : Refusal → ℕ
@@ -33,6 +35,8 @@ placeOf NoBlock = 0
 placeOf (ShortWork p) = p
 placeOf (ShortOutput p) = p
 placeOf (BadOrder p) = p
+-- "A later refusal for which no place is named gives 0."
+placeOf Unjoinable = 0
 
 -- What an answer says in document 01's terms: a result with its values, or a refusal's number and place. "For each answer
 -- that is an enum, a definition gives this paper's number and values for every case of that enum."

@@ -1,4 +1,5 @@
-// The refusals of document 01: one case for each row of its table, with the place where it varies.
+// The refusals of document 01, one case for each row of its table, and of document 02's requests, with the place where it
+// varies.
 
 pub enum Refusal {
     // The input ends inside a number or before the last row's end: the input's length.
@@ -25,6 +26,8 @@ pub enum Refusal {
     ShortOutput(usize),
     // s, k or b outside limits: 0, 1 or 2.
     BadOrder(usize),
+    // Packs that can't be joined: r differs, or the joined nodes, rows or a mu pass the limits.
+    Unjoinable,
 }
 
 // What a check says: all is good, or the refusal.

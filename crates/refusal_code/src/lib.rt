@@ -20,6 +20,7 @@ pub fn number(e: Refusal) -> usize
         Refusal::ShortWork(_) => 10,
         Refusal::ShortOutput(_) => 11,
         Refusal::BadOrder(_) => 12,
+        Refusal::Unjoinable => 13,
     }
 }
 
@@ -40,5 +41,6 @@ pub fn place(e: Refusal) -> usize
         Refusal::ShortWork(p) => p,
         Refusal::ShortOutput(p) => p,
         Refusal::BadOrder(p) => p,
+        Refusal::Unjoinable => 0,
     }
 }

@@ -1,4 +1,5 @@
 // Answers as numbers: 0 and the values that document 01 gives a result, or a refusal's number and place.
+use join::Joined;
 use layers::LayerHead;
 use number::NumberRead;
 use number::NumberWritten;
@@ -150,6 +151,14 @@ pub(crate) fn replied(reply: Reply) -> [usize; 19] {
     match reply {
         Reply::Written(n) => numbers(0, n, 0),
         Reply::Refused(e) => refused(e),
+    }
+}
+
+// How many bytes the joined pack has.
+pub(crate) fn joined(joined: Joined) -> [usize; 19] {
+    match joined {
+        Joined::Written(n) => numbers(0, n, 0),
+        Joined::Refused(e) => refused(e),
     }
 }
 

@@ -2,6 +2,8 @@
 use crate::answers;
 use crate::answers::unknown;
 use crate::script::Given;
+use crate::script::Part;
+use crate::script::part_of;
 use packing::RowFound;
 ghost use Prim.Native.Nat.{_≤_, _<_};
 
@@ -82,6 +84,25 @@ fn curve(input: &[u8], work: &mut [u16], out: &mut [u8]) -> [usize; 19] {
     answer
 }
 
+// Joining one, two or three packs, which stand one after another in the input; the first two end at the places given.
+fn join(given: Given, input: &[u8], out: &mut [u8]) -> [usize; 19] {
+    let packs = given.a;
+    let one = given.b;
+    let two = given.c;
+    let end = input.len();
+    if packs == 1 {
+        return answers::joined(join_code::join_one(input, out));
+    }
+    let first = part_of(input, Part { from: 0, to: one });
+    if packs == 2 {
+        let second = part_of(input, Part { from: one, to: end });
+        return answers::joined(join_code::join_two(first, second, out));
+    }
+    let second = part_of(input, Part { from: one, to: two });
+    let third = part_of(input, Part { from: two, to: end });
+    answers::joined(join_code::join_three(first, second, third, out))
+}
+
 // What the call answers.
 pub(crate) fn answer(
     call: usize,
@@ -96,6 +117,7 @@ pub(crate) fn answer(
         11 => crate::walks::walked(input, out),
         12 | 13 => replied(call, input, work, out),
         14 => curve(input, work, out),
+        15 => join(given, input, out),
         _ => told(call, given, input),
     }
 }

@@ -1,44 +1,14 @@
 -- The numbers of a placement's head, from an array of five layers. Assumes nothing.
-use Prim.Native.Nat.{ℕ, zero, suc, _+_, _*_, _-_}
+use Prim.Native.Nat.{ℕ, suc, _+_, _*_, _-_}
 use native.Mathlib.Omega.{arith}
-use mathlib.Core.Path.{_≡_, refl}
-use mathlib.Core.List.{List, [], _∷_}
-use lib.ListN.{length, getD, take, drop}
-use Rattle.layers.specs.Layers.{headNumbers}
-use Rattle.layers.specs.Answers.{noHead}
+use mathlib.Core.Path.{_≡_}
+use mathlib.Core.List.{List}
+use lib.ListN.{take, drop}
 use Rattle.layers.specs.declared.Base.{Base}
 use Rattle.layers.specs.declared.LayerHead.{LayerHead}
+use Rattle.layers.proofs.HeadNumbers.{take-headNumbers}
 use Rattle.placement.specs.declared.Order.{Order}
 use Rattle.planner.specs.Writing.{writtenNumbers}
-
--- an array's numbers, one by one
-abbrev pub arrayNumbers : List LayerHead → List ℕ
-arrayNumbers heads =
-    getD heads 0 noHead .bound ∷ getD heads 0 noHead .size
-    ∷ getD heads 1 noHead .bound ∷ getD heads 1 noHead .size
-    ∷ getD heads 2 noHead .bound ∷ getD heads 2 noHead .size
-    ∷ getD heads 3 noHead .bound ∷ getD heads 3 noHead .size
-    ∷ getD heads 4 noHead .bound ∷ getD heads 4 noHead .size
-    ∷ []
-
-pub five-numbers : (heads : List LayerHead) → length heads ≡ 5 → arrayNumbers heads ≡ headNumbers heads
-unfolding headNumbers
-five-numbers (a ∷ b ∷ c ∷ d ∷ e ∷ []) h = refl
-five-numbers [] h = absurd (omega arith)
-five-numbers (a ∷ []) h = absurd (omega arith)
-five-numbers (a ∷ b ∷ []) h = absurd (omega arith)
-five-numbers (a ∷ b ∷ c ∷ []) h = absurd (omega arith)
-five-numbers (a ∷ b ∷ c ∷ d ∷ []) h = absurd (omega arith)
-five-numbers (a ∷ b ∷ c ∷ d ∷ e ∷ f ∷ l) h = absurd (omega arith)
-
--- the first two numbers a layer
-take-headNumbers : (s : ℕ) (heads : List LayerHead) → take (2 * s) (headNumbers heads) ≡ headNumbers (take s heads)
-unfolding headNumbers
-take-headNumbers zero heads = refl
-take-headNumbers (suc s) [] = let e : 2 * suc s ≡ suc (suc (2 * s)) = omega arith in rw e
-take-headNumbers (suc s) (head ∷ heads) =
-    let e : 2 * suc s ≡ suc (suc (2 * s)) = omega arith in
-    rw (e, take-headNumbers s heads)
 
 -- the numbers that are lent
 pub head-taken : (base : Base) (order : Order) (figure : ℕ) (heads : List LayerHead) (s : ℕ)

@@ -1,7 +1,7 @@
 -- `planner_writer::head::head_numbers` meets its contract. Assumes nothing.
 use native.Mathlib.Omega.{arith}
 use borrow.Author.Needs.{needs}
-use Rattle.planner_writer.proofs.head.Numbers.{five-numbers}
+use Rattle.layers.proofs.HeadNumbers.{five-numbers}
 use Rattle.planner_writer.proofs.head.head_numbers.Statement.{statement}
 use Rattle.planner_writer.proofs.head.head_numbers.Tie as tie
 

@@ -1,0 +1,15 @@
+pub mod Worked
+pub mod Lcm
+pub mod Mu
+pub mod Shifted
+pub mod Layers
+pub mod Bytes
+pub mod Laying
+pub mod Search
+pub mod Exact
+pub mod Heads
+pub mod Good
+pub mod Writing
+pub mod Pieces
+pub mod Whole
+pub mod Checking

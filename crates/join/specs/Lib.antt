@@ -1,0 +1,4 @@
+pub mod Lcm
+pub mod Join
+pub mod Answers
+pub mod Estate

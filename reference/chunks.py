@@ -1,0 +1,56 @@
+"""Document 02, request (e): estates made of chunks. One, two or three packs joined into one.
+
+Written from the documents alone. Standard library only.
+"""
+from math import lcm
+
+from document01 import Refused, check_pack, numbers
+
+
+def joined(packs):
+    """The joined pack of packs that have one r: n, r, and mu and rows of each layer."""
+    r = packs[0]["r"]
+    layers = []
+    for x in range(r):
+        used = [p["layers"][x] for p in packs if p["layers"][x][1]]
+        mu = lcm(*(own for own, _ in used)) if used else 1
+        rows, before = [], 0
+        for p in packs:
+            own, blocks = p["layers"][x]
+            if blocks:
+                shifted = [tuple(before + node for node in row) for row in blocks]
+                rows += shifted * (mu // own)
+            before += p["n"]
+        layers.append((mu, rows))
+    return {"n": sum(p["n"] for p in packs), "r": r, "layers": layers}
+
+
+def pack_bytes(pack):
+    """A pack as a file, each number in its shortest form."""
+    head = [1, pack["n"], pack["r"]]
+    for mu, rows in pack["layers"]:
+        head += [mu, len(rows)]
+    return numbers(*head) + bytes(node for _, rows in pack["layers"] for row in rows for node in row)
+
+
+def too_large(packs):
+    """The joined rows, without making them: copies times blocks."""
+    rows = 0
+    for x in range(packs[0]["r"]):
+        used = [p["layers"][x] for p in packs if p["layers"][x][1]]
+        mu = lcm(*(own for own, _ in used)) if used else 1
+        if mu > 4096:
+            return True
+        rows += sum(mu // own * len(blocks) for own, blocks in used)
+    return rows > 4096
+
+
+def join(files, output=None):
+    """The joined pack's bytes; `output` is the output's length, none for one that is long enough."""
+    packs = [check_pack(data) for data in files]
+    if any(p["r"] != packs[0]["r"] for p in packs) or sum(p["n"] for p in packs) > 255 or too_large(packs):
+        raise Refused(13, 0)
+    data = pack_bytes(joined(packs))
+    if output is not None and output < len(data):
+        raise Refused(11, len(data))
+    return data

@@ -1,0 +1,92 @@
+"""Tests of joining (request (e)): small estates by brute force, published packings, and the limits at their edges."""
+import random
+import sys
+import unittest
+from itertools import combinations
+from pathlib import Path
+
+sys.path.insert(0, str(Path(__file__).resolve().parent))
+sys.path.insert(0, str(Path(__file__).resolve().parent.parent / "packings"))
+
+from cases import random_pack
+from chunks import join, joined, pack_bytes
+from constructions import affine, bose, GF3
+from document01 import Refused, check_pack, check_placement, plan, together, worst_case
+
+
+def refusal(call, *args):
+    try:
+        call(*args)
+    except Refused as e:
+        return e.number, e.place
+    return None
+
+
+def pack(n, r, layers):
+    """layers: (mu, rows) of the first layers; the others are empty."""
+    layers = list(layers) + [(1, [])] * (r - len(layers))
+    return pack_bytes({"n": n, "r": r, "layers": layers})
+
+
+def loose(n, mu, m):
+    """A pack of r = 2 with m rows 0 1 in layer 0: mu must be at least m."""
+    return pack(n, 2, [(mu, [(0, 1)] * m)])
+
+
+class Joins(unittest.TestCase):
+    def test_by_hand(self):
+        a = pack(2, 2, [(2, [(0, 1)]), (3, [(0, 1)])])
+        b = pack(3, 2, [(3, [(0, 1), (1, 2)])])
+        rows0 = [0, 1] * 3 + [2, 3, 3, 4] * 2
+        self.assertEqual(join([a, b]), bytes([1, 5, 2, 6, 7, 3, 1] + rows0 + [0, 1]))
+
+    def test_random(self):
+        draw = random.Random(21)
+        for _ in range(60):
+            r, count, files = draw.choice([2, 3]), draw.choice([1, 2, 3]), []
+            while len(files) < count:
+                n, own, data = random_pack(draw)
+                if own == r and n <= 9:
+                    files.append(data)
+            data = join(files)
+            whole = check_pack(data)
+            self.assertEqual(data, pack_bytes(joined([check_pack(f) for f in files])))
+            for x, (mu, rows) in enumerate(whole["layers"]):
+                for nodes in combinations(range(whole["n"]), x + 1):
+                    self.assertLessEqual(together(rows, nodes), mu)
+
+    def test_published(self):
+        nine, seven = affine(GF3, 2), bose(9)
+        one = pack(9, 3, [(1, []), (1, nine)])
+        two = pack(9, 3, [(1, []), (1, seven)])
+        data = join([one, two])
+        self.assertEqual(check_pack(data)["n"], 18)
+        for s, k, b in [(2, 2, 12), (2, 3, 20), (3, 4, 24)]:
+            placement = check_placement(plan(data, s, k, b)[0])
+            self.assertGreaterEqual(worst_case(placement), placement["F"])
+
+    def test_limits(self):
+        self.assertIsNone(refusal(join, [loose(127, 1, 0), loose(128, 1, 0)]))
+        self.assertEqual(refusal(join, [loose(128, 1, 0), loose(128, 1, 0)]), (13, 0))
+        self.assertIsNone(refusal(join, [loose(2, 2048, 2048), loose(2, 2048, 2048)]))
+        self.assertEqual(refusal(join, [loose(2, 2048, 2048), loose(2, 2049, 2049)]), (13, 0))
+        self.assertIsNone(refusal(join, [loose(2, 4096, 1), loose(2, 4096, 1)]))
+        self.assertIsNone(refusal(join, [loose(2, 64, 1), loose(2, 63, 1)]))
+        self.assertEqual(refusal(join, [loose(2, 4096, 1), loose(2, 3, 1)]), (13, 0))
+        full = loose(255, 4096, 4096)
+        self.assertEqual(refusal(join, [full, full, full]), (13, 0))
+        self.assertIsNone(refusal(join, [full]))
+
+    def test_order(self):
+        good, other = loose(2, 1, 1), pack(3, 3, [])
+        self.assertEqual(refusal(join, [good, other[:-1]]), (1, len(other) - 1))
+        self.assertEqual(refusal(join, [good + b"0", other[:-1]]), (5, len(good)))
+        self.assertEqual(refusal(join, [good, other]), (13, 0))
+        size = len(join([good, good]))
+        self.assertEqual(refusal(join, [good, good], size - 1), (11, size))
+        self.assertIsNone(refusal(join, [good, good], size))
+        self.assertEqual(refusal(join, [good, other], 0), (13, 0))
+
+
+if __name__ == "__main__":
+    unittest.main()
