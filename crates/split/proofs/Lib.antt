@@ -16,4 +16,5 @@ pub mod Stepped
 pub mod LineSteps
 pub mod Arrays
 pub mod Parts
+pub mod Passes
 pub mod Filling

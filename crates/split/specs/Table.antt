@@ -97,10 +97,6 @@ stepped size cost below b = least (withSteps size cost below b) b
 abbrev pub byPeriods : Steps → (below : List ℕ) → (b : ℕ) → ℕ
 byPeriods u below b = stepped (u .period * u .size) (getD (u .costs) (u .period) 0) below b
 
--- what d copies of `size` blocks cost, with the entry of `line` for the other records
-abbrev pub withCopies : (costs line : List ℕ) (size b : ℕ) → (d : ℕ) → ℕ
-withCopies costs line size b d = getD costs d 0 + getD line (b - d * size) 0
-
 -- by any number of copies: fewer than a period, beside whole periods
 abbrev pub byCopies : Steps → (below : List ℕ) → (b : ℕ) → ℕ
 byCopies u below b = least (λ d. getD (u .costs) d 0 + byPeriods u below (b - d * u .size)) (u .period - 1)
@@ -108,3 +104,8 @@ byCopies u below b = least (λ d. getD (u .costs) d 0 + byPeriods u below (b - d
 -- an entry of the line above `below`: the layer's records cost one by one, or its copies do
 abbrev pub lineEntry : Steps → (below : List ℕ) → (b : ℕ) → ℕ
 lineEntry u below b = min (stepped 1 (u .each) below b) (byCopies u below b)
+
+-- the same with no more than d copies beside whole periods
+abbrev pub copiesUpTo : Steps → (below : List ℕ) → (d j : ℕ) → ℕ
+copiesUpTo u below d j =
+    min (stepped 1 (u .each) below j) (least (λ c. getD (u .costs) c 0 + byPeriods u below (j - c * u .size)) d)

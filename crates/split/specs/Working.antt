@@ -1,15 +1,16 @@
 -- The working slice: its parts, and the lines of the planner's table that stand in it. Assumes nothing.
 use Prim.Native.Nat.{ℕ, suc, _+_, _*_, _-_, _^_, _≤_, _<_, min}
 use mathlib.Core.Path.{_≡_}
-use mathlib.Core.List.{List}
+use mathlib.Core.List.{List, map}
 use lib.ListN.{length, getD, take, drop}
+use Rattle.lists.specs.Lists.{upTo}
 use Rattle.layers.specs.Answers.{five}
 use Rattle.layers.specs.declared.LayerHead.{LayerHead}
 use Rattle.placement.specs.declared.Order.{Order}
 use Rattle.placement.specs.declared.Rule.the-variants.{NestedFloors}
 use Rattle.split.specs.declared.Steps.{Steps}
 use Rattle.split.specs.Splits.{noSplit, namedCounts}
-use Rattle.split.specs.Table.{Limits, StepLimits, Rising, tableLine}
+use Rattle.split.specs.Table.{Limits, StepLimits, Rising, tableLine, byPeriods, copiesUpTo}
 
 -- the k entries of l from place a on
 abbrev pub part : (a k : ℕ) → List ℕ → List ℕ
@@ -26,16 +27,22 @@ pub record LineBelow (at w : ℕ) (work : List ℕ) : Type 0 where
   pub fits : at + w ≤ length work
   pub rising : Rising (part (at - w) w work)
 
--- copies below the period beside an entry of `line`: the costs begin at 0 and never fall, the line begins at 0, and sums fit
-pub record CopiesOn (costs line : List ℕ) (size period b : ℕ) : Type 0 where
-  pub period-pos : 0 < period
-  pub period-le : period ≤ length costs
-  pub none : getD costs 0 0 ≡ 0
-  pub rising : (i j : ℕ) → i ≤ j → j < period → getD costs i 0 ≤ getD costs j 0
-  pub small : (d : ℕ) → d < period → getD costs d 0 < 2 ^ 60
-  pub first : getD line 0 0 ≡ 0
-  pub marked : (i : ℕ) → i ≤ b → getD line i 0 ≤ noSplit
-  pub within : b < length line
+-- place i of a run from place `at` on: the smaller of the entry there and `cost` above the entry of `line`
+abbrev pub lowered : (at cost : ℕ) (work line : List ℕ) → (i : ℕ) → ℕ
+lowered at cost work line i = min (getD work (at + i) 0) (cost + getD line i 0)
+
+-- there are n entries from place `at` on and as many in `line`, and sums fit
+pub record Lowerable (at n cost : ℕ) (work line : List ℕ) : Type 0 where
+  pub fits : at + n ≤ length work
+  pub beside : n ≤ length line
+  pub small : (i : ℕ) → i < n → cost + getD line i 0 < 2 ^ 16
+
+-- the line at place `at` has the losses by records or by whole periods of copies; `periods` has those by whole periods, each
+-- a copy's records further on
+pub record ByPeriods (u : Steps) (under : List ℕ) (at w : ℕ) (work periods : List ℕ) : Type 0 where
+  pub written : part at w work ≡ map (copiesUpTo u under 0) (upTo w)
+  pub room : w ≤ length periods
+  pub entries : (i : ℕ) → i < w → getD periods i 0 ≡ byPeriods u under (i - u .size)
 
 -- a layer's steps, and the line below it, which has an entry for `left` records
 pub record Countable (u : Steps) (below : List ℕ) (left : ℕ) : Type 0 where

@@ -1,19 +1,19 @@
 -- A line of the table, written entry by entry from the line below it: the losses by records, which both ways of raising a
 -- line keep, and the losses by copies. Assumes nothing.
 use Prim.Native.Nat.{ℕ, _+_, _*_, _-_, _≤_, _<_, min}
-use native.Mathlib.Nat.{le-refl, le-of-lt, lt-of-le-of-lt, mul-pos, mul-le-mul, eq-or-lt-of-le}
+use native.Mathlib.Nat.{mul-pos, mul-le-mul, eq-or-lt-of-le}
 use native.Mathlib.Omega.{arith}
 use mathlib.Core.Path.{_≡_, refl, sym, ap, ap₂, _∙_}
 use mathlib.Core.Logic.{_⊎_, inl, inr}
 use mathlib.Core.List.{List}
 use lib.ListN.{length, getD, set, replicate, length-set}
 use lib.Seq.{sets, getD-set-same, getD-set-other}
+use Rattle.lists.proofs.Parts.{getD-zeros}
 use Rattle.lists.proofs.UpTo.{map-upTo-congr}
 use Rattle.split.specs.declared.Steps.{Steps}
-use Rattle.split.specs.Splits.{noSplit, least}
-use Rattle.split.specs.Table.{StepLimits, Rising, stepped, byPeriods, withCopies, byCopies, lineEntry}
-use Rattle.split.specs.Working.{part, LineBelow, CopiesOn}
-use Rattle.split.proofs.Congruence.{least-congr}
+use Rattle.split.specs.Splits.{noSplit}
+use Rattle.split.specs.Table.{StepLimits, Rising, stepped, byPeriods, lineEntry}
+use Rattle.split.specs.Working.{part, LineBelow}
 use Rattle.split.proofs.Stepped.{stepped-zero, stepped-le-mark, stepped-step, record-step}
 use Rattle.split.proofs.LineSteps.{lineEntry-records}
 use Rattle.lists.proofs.Stores.{storedTo, stored-none, stored-next}
@@ -79,10 +79,10 @@ pub raised-by-records : {u : Steps} {at w : ℕ} {before after : List ℕ} → S
 raised-by-records {u} {at} {w} {before} limits below dear e =
     e ∙ ap (sets before at) (map-upTo-congr _ _ w (λ b h. sym (lineEntry-records limits _ (below .rising) dear b)))
 
--- `periods` has the losses by whole periods before place i
+-- `periods` has the losses by whole periods before place i, each a copy's records further on
 pub record Periods (u : Steps) (under : List ℕ) (i : ℕ) (periods : List ℕ) : Type 0 where
-  pub room : length periods ≡ 4_097
-  pub by-periods : (j : ℕ) → j ≤ i - 1 → getD periods j 0 ≡ byPeriods u under j
+  pub room : length periods ≡ 8_193
+  pub by-periods : (j : ℕ) → j ≤ u .size + (i - 1) → getD periods j 0 ≡ byPeriods u under (j - u .size)
 
 -- a period of copies holds a record
 pub whole-pos : {u : Steps} → StepLimits u → 0 < u .period * u .size
@@ -95,57 +95,44 @@ module _ {u : Steps} {under : List ℕ} (limits : StepLimits u) (rising : Rising
   abbrev whole : ℕ
   whole = getD (u .costs) (u .period) 0
 
-  pub periods-none : Periods u under 0 (replicate 4_097 0)
+  pub periods-none : Periods u under 0 (replicate 8_193 0)
   periods-none =
       record {
         room = refl;
-        by-periods = λ j h. let e : j ≡ 0 = omega arith in rw e (sym (stepped-zero (u .period * u .size) whole under (whole-pos limits) rising));
+        by-periods = λ j h.
+            let e : j - u .size ≡ 0 = omega arith in
+            getD-zeros 8_193 j ∙ rw e (sym (stepped-zero (u .period * u .size) whole under (whole-pos limits) rising));
       }
 
   module _ {i : ℕ} {periods : List ℕ} (r : Periods u under i periods) where
-    pub earlier-le : (j : ℕ) → j ≤ i - 1 → getD periods j 0 ≤ noSplit
+    pub earlier-le : (j : ℕ) → j ≤ u .size + (i - 1) → getD periods j 0 ≤ noSplit
     earlier-le j h =
-        rw (r .by-periods j h) (stepped-le-mark (u .period * u .size) whole under (whole-pos limits) rising j)
+        rw (r .by-periods j h) (stepped-le-mark (u .period * u .size) whole under (whole-pos limits) rising (j - u .size))
 
     -- one period more, or all the records are below
     pub by-period : (earlier copies below : ℕ) → earlier ≡ i - u .period * u .size → below ≡ getD under i 0
-        → copies ≡ min below (getD periods earlier 0 + whole) → copies ≡ byPeriods u under i
+        → copies ≡ min below (getD periods (u .size + earlier) 0 + whole) → copies ≡ byPeriods u under i
     by-period earlier copies below earlier≡ below≡ copies≡ =
         let p = whole-pos limits in
+        let e : u .size + earlier - u .size ≡ i - u .period * u .size = omega arith in
         copies≡
-        ∙ ap₂ (λ a b. min a (b + whole)) below≡ (ap (λ j. getD periods j 0) earlier≡ ∙ r .by-periods (i - u .period * u .size) (omega arith))
+        ∙ ap₂ (λ a b. min a (b + whole)) below≡ (r .by-periods (u .size + earlier) (omega arith) ∙ ap (byPeriods u under) e)
         ∙ sym (stepped-step (u .period * u .size) whole under p i)
 
     module _ (copies : ℕ) (h : i < 4_097) (e : copies ≡ byPeriods u under i) where
-      pub periods-next : Periods u under (i + 1) (set periods i copies)
+      pub periods-next : Periods u under (i + 1) (set periods (u .size + i) copies)
       periods-next =
           record {
-            room = length-set periods i copies ∙ r .room;
+            room = length-set periods (u .size + i) copies ∙ r .room;
             by-periods = λ j g. let here : i + 1 - 1 ≡ i = omega arith in stored j (eq-or-lt-of-le (rw here at g));
           }
         where
-          stored : (j : ℕ) → (j ≡ i) ⊎ (j < i) → getD (set periods i copies) j 0 ≡ byPeriods u under j
-          stored j (inl q) = let l = r .room in rw q (getD-set-same periods i copies 0 (omega arith) ∙ e)
-          stored j (inr g) = getD-set-other periods i j copies 0 (λ p. omega arith) ∙ r .by-periods j (omega arith)
-
-  -- fewer copies than a period beside an entry by whole periods
-  module _ {i : ℕ} {periods : List ℕ} (r : Periods u under (i + 1) periods) (h : i < 4_097) where
-    here : i + 1 - 1 ≡ i
-    here = omega arith
-
-    pub copies-on : CopiesOn (u .costs) periods (u .size) (u .period) i
-    copies-on =
-        record {
-          period-pos = limits .period-pos;
-          period-le = let l = limits .room in let p = limits .period-le in omega arith;
-          none = limits .none;
-          rising = λ a b l g. limits .rising a b l (le-of-lt g);
-          small = λ d l. lt-of-le-of-lt (limits .rising d (u .period) (le-of-lt l) (le-refl _)) (limits .small);
-          first = r .by-periods 0 (omega arith) ∙ stepped-zero (u .period * u .size) whole under (whole-pos limits) rising;
-          marked = λ j l. earlier-le r j (rw here l);
-          within = let l = r .room in omega arith;
-        }
-
-    pub by-copies : {copies : ℕ} → copies ≡ least (withCopies (u .costs) periods (u .size) i) (u .period - 1) → copies ≡ byCopies u under i
-    by-copies e =
-        e ∙ least-congr _ _ (u .period - 1) (λ d l. ap (λ n. getD (u .costs) d 0 + n) (r .by-periods (i - d * u .size) (omega arith)))
+          stored : (j : ℕ) → (j ≡ u .size + i) ⊎ (j < u .size + i)
+              → getD (set periods (u .size + i) copies) j 0 ≡ byPeriods u under (j - u .size)
+          stored j (inl q) =
+              let l = r .room in
+              let m = limits .size-le in
+              let b : u .size + i - u .size ≡ i = omega arith in
+              rw (q, b) (getD-set-same periods (u .size + i) copies 0 (omega arith) ∙ e)
+          stored j (inr g) =
+              getD-set-other periods (u .size + i) j copies 0 (λ p. omega arith) ∙ r .by-periods j (omega arith)

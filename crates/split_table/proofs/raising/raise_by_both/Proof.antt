@@ -1,23 +1,23 @@
--- `split_table::raising::raise_by_both` meets its contract. The loop's invariant: the entries before place `i` are written, and
--- those by whole periods are kept. Assumes nothing.
+-- `split_table::raising::raise_by_both` meets its contract. The loop's invariant: the entries before place `i` are written by records
+-- or by whole periods, and those by whole periods are kept. Assumes nothing.
 use Prim.Native.Nat.{_≤_, _-_, _+_, min}
 use mathlib.Core.Path.{sym, ap₂, _∙_}
-use lib.ListN.{getD, set}
-use Rattle.split.specs.declared.Steps.{Steps}
+use lib.ListN.{getD}
 use Rattle.split.specs.Splits.{noSplit}
-use Rattle.split.specs.Table.{lineEntry}
-use Rattle.split_table.proofs.raising.Raising.{lineUnder, Raised, raised-none, raised-next, raised-all, records-le, under, under-le, by-record, Periods, periods-none, periods-next, earlier-le, by-period, copies-on, by-copies, whole-pos, whole-le}
+use Rattle.split.specs.Table.{copiesUpTo}
+use Rattle.split.proofs.Passes.{copies-none}
+use Rattle.split_table.proofs.raising.Raising.{lineUnder, Raised, raised-none, raised-next, records-le, under, under-le, by-record, Periods, periods-none, periods-next, earlier-le, by-period, whole-pos, whole-le}
+use Rattle.split_table.proofs.raising.Lowering.{first-below, first-aside, both-same, both-written}
 use native.Mathlib.Omega.{arith}
 use Rattle.split_table.proofs.raising.raise_by_both.Statement.{statement}
 use Rattle.split_table.proofs.raising.raise_by_both.Tie as tie
 
 abbrev Inv-loop : tie.InvT-loop
-Inv-loop work₀ at w size each period costs whole whole-size from periods₀ records₀ i₀ work periods records i =
-    let u : Steps = record { size = size; each = each; period = period; costs = costs } in
-    Raised each at w work₀ (lineEntry u (lineUnder at w work₀)) i records work × Periods u (lineUnder at w work₀) i periods
+Inv-loop work₀ at w u size each period whole whole-size from periods₀ records₀ i₀ work periods records i =
+    Raised (u .each) at w work₀ (copiesUpTo u (lineUnder at w work₀) 0) i records work × Periods u (lineUnder at w work₀) i periods
 
 abbrev μ-loop : tie.MeasureT-loop
-μ-loop work₀ at w size each period costs whole whole-size from periods₀ records₀ i₀ work periods records i =
+μ-loop work₀ at w u size each period whole whole-size from periods₀ records₀ i₀ work periods records i =
     w - i
 
 -- where the function starts, as a turn of the loop sees it
@@ -69,64 +69,71 @@ smaller-requires c κs = tt
 step-back-requires : tie.Need-step-back-requires Inv-loop μ-loop
 step-back-requires c κs = tt
 
-mul-smaller : tie.Need-mul-smaller Inv-loop μ-loop
-mul-smaller c = omega arith
-
-array-read-smaller : tie.Need-array-read-smaller Inv-loop μ-loop
-array-read-smaller c = omega arith
-
-add-smaller-2 : tie.Need-add-smaller-2 Inv-loop μ-loop
-add-smaller-2 c =
+-- the entry a period before is not above the mark, and there is room for it
+earlier-small : (c : tie.After-step-back Inv-loop μ-loop)
+    → let t = c .before .before .before in
+    getD (t .before .loop .periods) (start t .args .u .size + c .step-back .result) 0 ≤ noSplit
+earlier-small c =
     let t = c .before .before .before in
     let s = start t in
-    let limits = s .pre .0 in
-    let pos = whole-pos limits in
-    let earlier = earlier-le limits (s .pre .1 .rising) (t .before .loop .inv .1) (c .step-back .result) (omega (arith, c .step-back .ensures)) in
-    let more = limits .small in
+    let pos = whole-pos (s .pre .0) in
+    earlier-le (s .pre .0) (s .pre .1 .rising) (t .before .loop .inv .1) (s .args .u .size + c .step-back .result)
+    (omega (arith, c .step-back .ensures))
+
+earlier-within : (c : tie.After-step-back Inv-loop μ-loop) → start (c .before .before .before) .args .u .size + c .step-back .result ≤ 8_192
+earlier-within c =
+    let t = c .before .before .before in
+    let m = start t .pre .0 .size-le in
+    let n = start t .pre .1 .small in
+    omega (arith, c .step-back .ensures, t .loop-test .taken)
+
+add-smaller-2 : tie.Need-add-smaller-2 Inv-loop μ-loop
+add-smaller-2 c = let h = earlier-within c in omega arith
+
+mul-smaller : tie.Need-mul-smaller Inv-loop μ-loop
+mul-smaller c = let h = earlier-within c in omega arith
+
+array-read-smaller : tie.Need-array-read-smaller Inv-loop μ-loop
+array-read-smaller c = let h = earlier-within c in omega arith
+
+cast-smaller : tie.Need-cast-smaller Inv-loop μ-loop
+cast-smaller c = let h = earlier-small c in omega arith
+
+add-smaller-3 : tie.Need-add-smaller-3 Inv-loop μ-loop
+add-smaller-3 c =
+    let earlier = earlier-small c in
+    let more = start (c .before .before .before) .pre .0 .small in
     record { fits = omega arith }
 
 smaller-requires-2 : tie.Need-smaller-requires-2 Inv-loop μ-loop
 smaller-requires-2 c κs = tt
 
+cast-periods : tie.Need-cast-periods Inv-loop μ-loop
+cast-periods c = let h = under-small (c .before .before .before .before) in omega (arith, c .smaller2 .ensures)
+
+-- the next entry by whole periods has room
+next-within : (c : tie.In-loop Inv-loop μ-loop) → start c .args .u .size + c .before .loop .i ≤ 8_192
+next-within c =
+    let m = start c .pre .0 .size-le in
+    let n = start c .pre .1 .small in
+    omega (arith, c .loop-test .taken)
+
+add-periods : tie.Need-add-periods Inv-loop μ-loop
+add-periods c = let h = next-within (c .before .before .before .before) in omega arith
+
 mul-periods : tie.Need-mul-periods Inv-loop μ-loop
-mul-periods c = omega arith
+mul-periods c = let h = next-within (c .before .before .before .before) in omega arith
 
 array-write-periods : tie.Need-array-write-periods Inv-loop μ-loop
-array-write-periods c = omega arith
-
--- the entry by whole periods is kept
-kept : (c : tie.After-smaller2 Inv-loop μ-loop)
-    → let t = c .before .before .before .before in
-    let a = start t .args in
-    let l = t .before .loop in
-    Periods (a .u) (lineUnder (a .at) (a .w) (a .work .now)) (l .i + 1) (set (l .periods) (l .i) (c .smaller2 .result))
-kept c =
-    let t = c .before .before .before .before in
-    let p = start t .pre in
-    let l = t .before .loop in
-    let back = c .before .step-back in
-    periods-next (p .0) (p .1 .rising) (l .inv .1) (c .smaller2 .result) (omega arith)
-    (by-period (p .0) (p .1 .rising) (l .inv .1) (back .result) (c .smaller2 .result) _ (back .ensures)
-    (under (p .1) (l .inv .0) (t .loop-test .taken)) (c .smaller2 .ensures))
-
-slice-aggregate-least-copies : tie.Need-slice-aggregate-least-copies Inv-loop μ-loop
-slice-aggregate-least-copies c = sym (start (c .before .before .before .before .before) .pre .0 .room)
-
-slice-aggregate-least-copies-2 : tie.Need-slice-aggregate-least-copies-2 Inv-loop μ-loop
-slice-aggregate-least-copies-2 c = sym (kept (c .before .before) .room)
-
-least-copies-requires : tie.Need-least-copies-requires Inv-loop μ-loop
-least-copies-requires c κs =
-    let t = c .before .before .before .before .before .before in
-    copies-on (start t .pre .0) (start t .pre .1 .rising) (kept (c .before .before)) (omega arith)
+array-write-periods c = let h = next-within (c .before .before .before .before) in omega arith
 
 smaller-requires-3 : tie.Need-smaller-requires-3 Inv-loop μ-loop
 smaller-requires-3 c κs = tt
 
 cast-work : tie.Need-cast-work Inv-loop μ-loop
 cast-work c =
-    let h = under-small (c .before .before .before .before .before .before .before .before) in
-    omega (arith, c .before .before .before .before .before .before .smaller .ensures, c .smaller3 .ensures)
+    let h = under-small (c .before .before .before .before .before) in
+    omega (arith, c .before .before .before .smaller .ensures, c .smaller3 .ensures)
 
 add-work : tie.Need-add-work Inv-loop μ-loop
 add-work c = omega arith
@@ -145,25 +152,56 @@ loop-less c = omega arith
 
 loop-again : tie.Need-loop-again Inv-loop μ-loop
 loop-again c =
-    let m = c .before .before .before .before in
-    let t = m .before .before .before .before in
+    let t = c .before .before .before .before .before in
     let turn = t .loop-test .taken in
-    let raised = t .before .loop .inv .0 in
+    let l = t .before .loop in
     let limits = start t .pre .0 in
     let below = start t .pre .1 in
-    let more = m .before .before .smaller in
+    let more = c .before .before .before .smaller in
+    let back = c .before .before .step-back in
+    let copies = c .before .smaller2 in
     let entry = c .smaller3 in
-    let record-eq = by-record below raised turn (more .ensures) in
-    let copies-eq = by-copies limits (below .rising) (kept m) (omega arith) (c .before .least-copies .ensures) in (
-      raised-next below raised turn (more .result) (entry .result) (more .ensures) (entry .ensures ∙ ap₂ min record-eq copies-eq),
-      kept m,
+    let record-eq = by-record below (l .inv .0) turn (more .ensures) in
+    let copies-eq = by-period limits (below .rising) (l .inv .1) (back .result) (copies .result) _ (back .ensures) (under below (l .inv .0) turn) (copies .ensures) in (
+      raised-next below (l .inv .0) turn (more .result) (entry .result) (more .ensures)
+          (entry .ensures ∙ ap₂ min record-eq copies-eq ∙ sym (copies-none _ _ limits (l .i))),
+      periods-next limits (below .rising) (l .inv .1) (copies .result) (omega arith) copies-eq,
+    )
+
+-- where the loop ends
+abbrev start-of-end : tie.After-loop Inv-loop μ-loop → tie.Start Inv-loop μ-loop
+start-of-end e = e .before .before .before .before
+
+end-of : (e : tie.After-loop Inv-loop μ-loop) → start-of-end e .args .w ≤ e .before .loop .i
+end-of e = omega (arith, e .loop-test .left)
+
+slice-aggregate-lower-by-copies : tie.Need-slice-aggregate-lower-by-copies Inv-loop μ-loop
+slice-aggregate-lower-by-copies c = sym (c .before .before .before .loop .inv .1 .room)
+
+lower-by-copies-requires : tie.Need-lower-by-copies-requires Inv-loop μ-loop
+lower-by-copies-requires c κs =
+    let e = c .before .before in
+    let l = e .before .loop in
+    let p = start-of-end e .pre in
+    let done = end-of e in (
+      p .0,
+      first-below (p .0) (p .1) (l .inv .0) (l .inv .1) done,
+      first-aside (p .0) (p .1) (l .inv .0) (l .inv .1) done,
     )
 
 same-length : tie.Need-same-length Inv-loop μ-loop
-same-length c = c .before .loop .inv .0 .same
+same-length c =
+    let e = c .before .before .before .before .before in
+    let l = e .before .loop in
+    let p = start-of-end e .pre in
+    both-same (p .0) (p .1) (l .inv .0) (l .inv .1) (end-of e) (c .before .before .lower-by-copies .ensures)
 
 returns : tie.Need-returns Inv-loop μ-loop
-returns c = raised-all (c .before .before .before .before .pre .1) (c .before .loop .inv .0) (omega arith)
+returns c =
+    let e = c .before .before .before .before .before in
+    let l = e .before .loop in
+    let p = start-of-end e .pre in
+    both-written (p .0) (p .1) (l .inv .0) (l .inv .1) (end-of e) (c .before .before .lower-by-copies .ensures)
 
 pub raise-by-both-spec : {M : Type 1} → statement M
 raise-by-both-spec =
@@ -183,15 +221,16 @@ raise-by-both-spec =
     add-smaller
     smaller-requires
     step-back-requires
+    add-smaller-2
     mul-smaller
     array-read-smaller
-    add-smaller-2
+    cast-smaller
+    add-smaller-3
     smaller-requires-2
+    cast-periods
+    add-periods
     mul-periods
     array-write-periods
-    slice-aggregate-least-copies
-    slice-aggregate-least-copies-2
-    least-copies-requires
     smaller-requires-3
     cast-work
     add-work
@@ -200,5 +239,7 @@ raise-by-both-spec =
     add-i
     loop-less
     loop-again
+    slice-aggregate-lower-by-copies
+    lower-by-copies-requires
     same-length
     returns)
