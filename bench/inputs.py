@@ -83,6 +83,13 @@ def check_inputs(draw):
         yield f"check-b{b}", placement(draw, NODES, 5, 8, even_sizes(b, 5))
 
 
+def load_inputs(draw):
+    """Rows in layer 0 alone, of few nodes and of many: the rows' order, the nodes' counts for the packing test and for the line."""
+    for n, k in (7, 6), (NODES, 8):
+        for b in SIZES[1:]:
+            yield f"check-n{n}-b{b}", placement(draw, n, 5, k, [b, 0, 0, 0, 0])
+
+
 def plan_inputs(draw):
     yield "plan-nine", order(2, 3, 9) + P
     # s = r = 5. At k = 6 a copy of seven blocks costs less than seven records in every layer, so every layer's loss has steps
@@ -101,6 +108,7 @@ def inputs():
     draw = random.Random(31)
     yield from check_inputs(draw)
     yield from plan_inputs(draw)
+    yield from load_inputs(random.Random(32))
 
 
 def main(folder):

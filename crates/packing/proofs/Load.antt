@@ -3,19 +3,21 @@ use Prim.Native.Nat.{ℕ, suc, _+_, _*_, _-_, _≤_, _<_}
 use native.Mathlib.Nat.{sub-zero}
 use native.Mathlib.Numerals.{add-one}
 use native.Mathlib.Omega.{arith}
-use mathlib.Core.Path.{_≡_, refl, ap, _∙_}
+use mathlib.Core.Path.{_≡_, refl, sym, ap, _∙_}
 use mathlib.Core.Bool.{Bool, true, false}
 use mathlib.Core.List.{List, [], _∷_, flatten}
-use lib.Dec.{T, leb, ltb, eqb, leb→le}
+use lib.Dec.{T, leb, ltb, eqb, leb→le, ltb→lt}
 use lib.ListN.{length, getD, take, drop, set, replicate, getD-replicate, length-take}
-use lib.Seq.{take-suc, getD-set-same, getD-set-other}
+use lib.Seq.{take-suc, take-all, getD-set-same, getD-set-other}
 use borrow.Author.Tests.{eqb-true, eqb-false, ne-eqb}
-use Rattle.lists.specs.Lists.{All, tally, count, every, largest}
+use Rattle.lists.specs.Lists.{All, tally, count, every, total}
 use Rattle.lists.proofs.Tests.{and-left, and-right}
+use Rattle.lists.proofs.Alls.{all-imp, all-flatten, every-all, length-flatten}
 use Rattle.lists.proofs.Counts.{tally-add, count-append, count-le-length}
-use Rattle.lists.proofs.UpTo.{take-map-upTo}
-use Rattle.packing.specs.Rows.{ascending, inOrder, rowsAt, member}
-use Rattle.packing.specs.Load.{load, most}
+use Rattle.lists.proofs.Totals.{total-count-eqb}
+use Rattle.lists.proofs.UpTo.{length-map-upTo, getD-map-upTo, map-upTo-congr, take-map-upTo}
+use Rattle.packing.specs.Rows.{ascending, inOrder, Row, rowsAt, member}
+use Rattle.packing.specs.Load.{load, loads, nodeCounts}
 use Rattle.packing.proofs.RowsAt.{flatten-rowsAt}
 
 -- a node below all of an ascending row is not in it
@@ -42,16 +44,15 @@ count-of-ascending v lo (a ∷ row) t =
         rw e (ap suc (count-of-low v (suc a) row (omega arith) up))
     go false e up ih = rw e ih
 
--- in rows that are in order, the bytes that are v are the rows that hold v
-pub count-of-rows : (n v : ℕ) (rows : List (List ℕ)) → All (λ row. T (inOrder n row)) rows
+-- in ascending rows the bytes that are v are the rows that hold v
+pub count-of-rows : (v : ℕ) (rows : List (List ℕ)) → All (λ row. T (ascending 0 row)) rows
     → count (λ w. eqb v w) (flatten rows) ≡ count (λ row. member v row) rows
 unfolding count flatten
-count-of-rows n v [] h = refl
-count-of-rows n v (row ∷ rows) h =
-    let up : T (ascending 0 row) = and-left (ascending 0 row) (every (λ w. ltb w n) row) (h .0) in
+count-of-rows v [] h = refl
+count-of-rows v (row ∷ rows) h =
     let z : 0 + count (λ l. member v l) rows ≡ count (λ l. member v l) rows = omega arith in
     count-append (λ w. eqb v w) row (flatten rows)
-    ∙ rw (count-of-ascending v 0 row up, count-of-rows n v rows (h .1))
+    ∙ rw (count-of-ascending v 0 row (h .0), count-of-rows v rows (h .1))
     (tally-add (member v row) 0 (count (λ l. member v l) rows) ∙ ap (tally (member v row)) z)
 
 -- element v says how many of the bytes are v
@@ -83,14 +84,45 @@ pub counts-le : (counts bytes : List ℕ) (i : ℕ) → Counts counts (take i by
 counts-le counts bytes i cs v lt =
     rw (cs v lt) (omega (arith, count-le-length (λ w. eqb v w) (take i bytes), length-take i bytes))
 
--- the largest count of the nodes below n, from the counts of the rows' bytes
-pub most-of-counts : (rows : List ℕ) (c r n : ℕ) (counts : List ℕ) → n ≤ 256 → n ≤ length counts
-    → All (λ row. T (inOrder n row)) (rowsAt r c rows) → Counts counts (take (c * r - 0) (drop 0 rows))
-    → largest (take (n - 0) (drop 0 counts))
-    ≡ most n (rowsAt r c rows)
-most-of-counts rows c r n counts small fits order cs =
-    rw (sub-zero n)
-    (ap largest
-    (take-map-upTo (load (rowsAt r c rows)) counts 0 n fits
-    (λ i lt. (rw (sub-zero (c * r), ← flatten-rowsAt r c rows) at (cs i (omega arith)))
-    ∙ count-of-rows n i (rowsAt r c rows) order)))
+-- rows in order are ascending, and their nodes are below n
+pub rows-ascend : (n : ℕ) (rows : List (List ℕ)) → All (λ row. T (inOrder n row)) rows → All (λ row. T (ascending 0 row)) rows
+rows-ascend n rows h =
+    all-imp (λ row. T (inOrder n row)) (λ row. T (ascending 0 row))
+    (λ row t. and-left (ascending 0 row) (every (λ w. ltb w n) row) t) rows h
+
+row-below : (n r : ℕ) (row : List ℕ) → Row n r row → All (λ v. v < n) row
+row-below n r row h =
+    all-imp (λ v. T (ltb v n)) (λ v. v < n) (λ v t. ltb→lt v n t) row
+    (every-all (λ v. ltb v n) row (and-right (ascending 0 row) (every (λ v. ltb v n) row) (h .1)))
+
+-- counts of the bytes of ascending rows are the nodes' counts
+pub counts-of-nodes : (rows : List ℕ) (c r : ℕ) (counts : List ℕ) → length counts ≡ 256
+    → All (λ row. T (ascending 0 row)) (rowsAt r c rows) → Counts counts (take (c * r - 0) (drop 0 rows))
+    → counts ≡ nodeCounts r c rows
+unfolding nodeCounts
+counts-of-nodes rows c r counts len up cs =
+    sym (take-all 256 counts (omega arith))
+    ∙ take-map-upTo (load (rowsAt r c rows)) counts 0 256 (omega arith)
+    (λ v lt. (rw (sub-zero (c * r), ← flatten-rowsAt r c rows) at (cs v lt)) ∙ count-of-rows v (rowsAt r c rows) up)
+
+pub length-nodeCounts : (r c : ℕ) (bytes : List ℕ) → length (nodeCounts r c bytes) ≡ 256
+unfolding nodeCounts
+length-nodeCounts r c bytes = length-map-upTo (load (rowsAt r c bytes)) 256
+
+-- the counts of the first n nodes, in order
+pub take-nodeCounts : (r c n : ℕ) (bytes : List ℕ) → n ≤ 256 → take n (nodeCounts r c bytes) ≡ loads n (rowsAt r c bytes)
+unfolding nodeCounts
+take-nodeCounts r c n bytes h =
+    let rows = rowsAt r c bytes in
+    take-map-upTo (load rows) (loads 256 rows) 0 n (omega (arith, length-map-upTo (load rows) 256))
+    (λ v lt. getD-map-upTo (load rows) 256 v 0 (omega arith))
+
+-- (f) "all n counts add up to b × r": in ascending rows of r nodes below n each of a row's r nodes counts once
+pub total-loads : (n r : ℕ) (rows : List (List ℕ)) → All (Row n r) rows → total (loads n rows) ≡ length rows * r
+total-loads n r rows h =
+    let ordered = all-imp (Row n r) (λ row. T (inOrder n row)) (λ row g. g .1) rows h in
+    let lengths = all-imp (Row n r) (λ row. length row ≡ r) (λ row g. g .0) rows h in
+    let below = all-flatten (λ v. v < n) rows (all-imp (Row n r) (All (λ v. v < n)) (row-below n r) rows h) in
+    let counted = map-upTo-congr (λ v. count (eqb v) (flatten rows)) (load rows) n
+    (λ v lt. count-of-rows v rows (rows-ascend n rows ordered)) in
+    ap total (sym counted) ∙ total-count-eqb n (flatten rows) below ∙ length-flatten r rows lengths

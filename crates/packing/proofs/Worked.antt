@@ -6,7 +6,7 @@ use Rattle.lists.specs.Lists.{count, every, any, firstWhere, largest, upTo}
 use Rattle.packing.specs.Rows.{ascending, member, holds, together, subsets, crowded, firstCrowded, firstBad, repeated}
 use Rattle.packing.specs.Floors.{floorsDown}
 use Rattle.packing.specs.Failures.{usable}
-use Rattle.packing.specs.Load.{most}
+use Rattle.packing.specs.Load.{loads, most}
 use Rattle.packing.specs.SevenCabinets.{rows0, rows1, row245}
 
 -- Document 01's layer 1 is a packing of pairs; with its last row 246, row 146 (row 4) shares 4 and 6 with it. In 012 and
@@ -35,10 +35,13 @@ pub survivors-of-two : (usable 2 (rows1 row245) (λ v. member v (4 ∷ 6 ∷ [])
 unfolding count member usable
 survivors-of-two = (refl, refl)
 
--- each node stands in three rows of layer 1; with 246 in place of 245 node 6 stands in four
-pub loads : (most 7 (rows1 row245) ≡ 3) × (most 7 (rows1 (2 ∷ 4 ∷ 6 ∷ [])) ≡ 4)
+-- each node stands in three rows of layer 1; with 246 in place of 245 node 5 stands in two and node 6 in four
+pub counts : (loads 7 (rows1 row245) ≡ 3 ∷ 3 ∷ 3 ∷ 3 ∷ 3 ∷ 3 ∷ 3 ∷ [])
+    × (most 7 (rows1 row245) ≡ 3)
+    × (loads 7 (rows1 (2 ∷ 4 ∷ 6 ∷ [])) ≡ 3 ∷ 3 ∷ 3 ∷ 3 ∷ 3 ∷ 2 ∷ 4 ∷ [])
+    × (most 7 (rows1 (2 ∷ 4 ∷ 6 ∷ [])) ≡ 4)
 unfolding count largest upTo member
-loads = (refl, refl)
+counts = (refl, refl, refl, refl)
 
 -- nine rows of seven blocks
 pub repeats : repeated (rows1 row245) 9 ≡ rows1 row245 ++ (0 ∷ 1 ∷ 2 ∷ []) ∷ (0 ∷ 3 ∷ 4 ∷ []) ∷ []

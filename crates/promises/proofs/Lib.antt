@@ -7,5 +7,6 @@ pub mod Refusals
 pub mod Requests
 pub mod RequestC
 pub mod RequestD
+pub mod RequestF
 pub mod Starred
 pub mod RequestE

@@ -1,7 +1,6 @@
 pub mod Worked
 pub mod Orders
 pub mod Prefix
-pub mod Load
 pub mod Mean
 pub mod Replies
 pub mod Slices

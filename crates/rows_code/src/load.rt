@@ -4,8 +4,8 @@ ghost use Prim.Native.Nat.{ℕ, _*_, _≤_, _<_};
 ghost use lib.ListN.{length, getD};
 ghost use lib.Dec.{T, eqb};
 ghost use Rattle.lists.specs.Lists.{All, count, largest};
-ghost use Rattle.packing.specs.Rows.{inOrder, rowsAt};
-ghost use Rattle.packing.specs.Load.{most};
+ghost use Rattle.packing.specs.Rows.{ascending, inOrder, rowsAt};
+ghost use Rattle.packing.specs.Load.{nodeCounts, most};
 
 // How many of the bytes are 0, how many are 1, and so on.
 fn byte_counts(bytes: &[u8]) -> [usize; 256]
@@ -36,14 +36,24 @@ fn largest_count(counts: &[usize]) -> usize
     most
 }
 
-// The largest number of the c rows of r bytes that hold one node, by one pass over the bytes.
+// How many of the c rows of r bytes hold node 0, how many node 1, and so on, by one pass over the rows. An ascending row has
+// a node once, so that its bytes can be counted.
+pub fn node_counts(rows: &[u8], c: usize, r: usize) -> [usize; 256]
+    requires { ⌜ c * r ≤ length (now rows) ⌝ }
+    requires order { ⌜ All (λ row. T (ascending 0 row)) (rowsAt r c (now rows)) ⌝ }
+    ensures { λ counts. ⌜ counts ≡ nodeCounts r c (now (rows .entry)) ⌝ }
+{
+    let total = c * r;
+    byte_counts(&rows[0..total])
+}
+
+// The largest number of the c rows of r bytes that hold one of n nodes: the largest of the counts.
 pub fn most_load(rows: &[u8], c: usize, r: usize, n: usize) -> usize
     requires { ⌜ c * r ≤ length (now rows) ⌝ }
     requires { ⌜ n ≤ 256 ⌝ }
     requires { ⌜ All (λ row. T (inOrder n row)) (rowsAt r c (now rows)) ⌝ }
     ensures { λ answer. ⌜ answer ≡ most n (rowsAt r c (now (rows .entry))) ⌝ }
 {
-    let total = c * r;
-    let counts = byte_counts(&rows[0..total]);
+    let counts = node_counts(rows, c, r);
     largest_count(&counts[0..n])
 }

@@ -1,26 +1,18 @@
--- `rows_code::load::most_load` meets its contract: in rows that are in order, the bytes that are v are the rows that hold v.
--- Assumes nothing.
-use native.Mathlib.Omega.{arith}
-use mathlib.Core.Path.{_∙_}
+-- `rows_code::load::most_load` meets its contract: the largest of the counts of the first n nodes. Assumes nothing.
+use native.Mathlib.Nat.{sub-zero}
+use mathlib.Core.Path.{_∙_, ap}
 use borrow.Author.Needs.{needs}
-use Rattle.packing.proofs.Load.{most-of-counts}
+use Rattle.lists.specs.Lists.{largest}
+use Rattle.packing.specs.Rows.{rowsAt}
+use Rattle.packing.proofs.Load.{rows-ascend, take-nodeCounts}
 use Rattle.rows_code.proofs.load.most_load.Statement.{statement}
 use Rattle.rows_code.proofs.load.most_load.Tie as tie
 
-mul-total : tie.Need-mul-total
-mul-total c = search needs
-
-sub-byte-counts : tie.Need-sub-byte-counts
-sub-byte-counts c = search needs
-
-part-byte-counts-start : tie.Need-part-byte-counts-start
-part-byte-counts-start c = search needs
-
-part-byte-counts-end : tie.Need-part-byte-counts-end
-part-byte-counts-end c = search needs
-
-byte-counts-requires : tie.Need-byte-counts-requires
-byte-counts-requires c κs = search needs
+node-counts-requires : tie.Need-node-counts-requires
+node-counts-requires c κs =
+    let s = c .before in
+    let a = s .args in
+    (s .pre .0, rows-ascend (a .n) (rowsAt (a .r) (a .c) (a .rows .now)) (s .pre .1 .1))
 
 sub-largest-count : tie.Need-sub-largest-count
 sub-largest-count c = search needs
@@ -36,22 +28,17 @@ largest-count-requires c κs = search needs
 
 returns : tie.Need-returns
 returns c =
-    let s = c .before .before .before .before .before .before in
+    let s = c .before .before .before .before .before in
     let a = s .args in
-    let counted = c .before .before .before .byte-counts in
     c .largest-count .ensures
-    ∙ most-of-counts (a .rows .now) (a .c) (a .r) (a .n) (counted .result) (s .pre .1 .0) (omega arith)
-    (s .pre .1 .1) (counted .ensures)
+    ∙ rw (sub-zero (a .n), c .before .before .before .node-counts .ensures)
+    (ap largest (take-nodeCounts (a .r) (a .c) (a .n) (a .rows .now) (s .pre .1 .0)))
 
 pub most-load-spec : {M : Type 1} → statement M
 most-load-spec =
     tie.close
     (tie.spec
-    mul-total
-    sub-byte-counts
-    part-byte-counts-start
-    part-byte-counts-end
-    byte-counts-requires
+    node-counts-requires
     sub-largest-count
     part-largest-count-start
     part-largest-count-end
