@@ -16,7 +16,7 @@ use Rattle.lists.proofs.Alls.{all-append-left, all-append-right, all-both}
 use Rattle.lists.proofs.Finds.{some-firstWhere}
 use Rattle.lists.proofs.Listed.{firstWhere-some}
 use Rattle.refusal.specs.declared.Refusal.{Refusal}
-use Rattle.refusal.specs.declared.Refusal.the-variants.{Ended, Malformed, WrongKind, OutsideLimits, Trailing, BadRow, Crowded, WrongFigure, NoBlock, ShortWork, ShortOutput, BadOrder, Unjoinable}
+use Rattle.refusal.specs.declared.Refusal.the-variants.{Ended, Malformed, WrongKind, OutsideLimits, Trailing, BadRow, Crowded, WrongFigure, NoBlock, ShortWork, ShortOutput, BadOrder, Unjoinable, BadWish, OutOfService, BadCounts, TooManySets, BadRounds, EarlierEvent, BadEvent, SharedFeeder}
 use Rattle.refusal.specs.Checked.{Checked, accepted, refused, _>>=_}
 use Rattle.packing.specs.Rows.{Row, inOrder, firstBad, firstCrowded}
 use Rattle.packing.proofs.Test.{FirstCrowded, first-crowded-meaning, uncrowded-packing, packing-no-set, good-iff-in-order}
@@ -254,3 +254,11 @@ module _ (base : Base) (heads : List LayerHead) (s : List ℕ) (at : ℕ) where
       from (ShortOutput p) h = absurd h
       from (BadOrder p) h = absurd h
       from Unjoinable h = absurd h
+      from BadWish h = absurd h
+      from (OutOfService p) h = absurd h
+      from BadCounts h = absurd h
+      from TooManySets h = absurd h
+      from BadRounds h = absurd h
+      from (EarlierEvent p) h = absurd h
+      from (BadEvent p) h = absurd h
+      from (SharedFeeder p) h = absurd h

@@ -7,7 +7,7 @@ use lib.ListN.{length, drop, getD}
 use lib.Dec.{T}
 use Rattle.lists.specs.Lists.{All}
 use Rattle.refusal.specs.declared.Refusal.{Refusal}
-use Rattle.refusal.specs.declared.Refusal.the-variants.{Ended, Malformed, WrongKind, OutsideLimits, Trailing, BadRow, Crowded, WrongFigure, NoBlock, ShortWork, ShortOutput, BadOrder, Unjoinable}
+use Rattle.refusal.specs.declared.Refusal.the-variants.{Ended, Malformed, WrongKind, OutsideLimits, Trailing, BadRow, Crowded, WrongFigure, NoBlock, ShortWork, ShortOutput, BadOrder, Unjoinable, BadWish, OutOfService, BadCounts, TooManySets, BadRounds, EarlierEvent, BadEvent, SharedFeeder}
 use Rattle.refusal.specs.Checked.{accepted}
 use Rattle.number.specs.Numbers.{readNumber}
 use Rattle.number.specs.declared.Reading.{Reading}
@@ -78,3 +78,11 @@ module _ (base : Base) (heads : List LayerHead) (s : List ℕ) (at : ℕ) where
   RowsRefused (ShortOutput p) = ⊥
   RowsRefused (BadOrder p) = ⊥
   RowsRefused Unjoinable = ⊥
+  RowsRefused BadWish = ⊥
+  RowsRefused (OutOfService p) = ⊥
+  RowsRefused BadCounts = ⊥
+  RowsRefused TooManySets = ⊥
+  RowsRefused BadRounds = ⊥
+  RowsRefused (EarlierEvent p) = ⊥
+  RowsRefused (BadEvent p) = ⊥
+  RowsRefused (SharedFeeder p) = ⊥

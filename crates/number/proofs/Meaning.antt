@@ -10,7 +10,7 @@ use lib.ListN.{length, getD}
 use lib.Dec.{leb}
 use borrow.Author.Tests.{leb-true, leb-false}
 use Rattle.refusal.specs.declared.Refusal.{Refusal}
-use Rattle.refusal.specs.declared.Refusal.the-variants.{Ended, Malformed, WrongKind, OutsideLimits, Trailing, BadRow, Crowded, WrongFigure, NoBlock, ShortWork, ShortOutput, BadOrder, Unjoinable}
+use Rattle.refusal.specs.declared.Refusal.the-variants.{Ended, Malformed, WrongKind, OutsideLimits, Trailing, BadRow, Crowded, WrongFigure, NoBlock, ShortWork, ShortOutput, BadOrder, Unjoinable, BadWish, OutOfService, BadCounts, TooManySets, BadRounds, EarlierEvent, BadEvent, SharedFeeder}
 use Rattle.refusal.specs.Checked.{Checked, accepted, refused, _>>=_, require}
 use Rattle.number.specs.Numbers.{readGroups, readNumber, readWithin}
 use Rattle.number.specs.declared.Reading.{Reading}
@@ -93,6 +93,14 @@ number-refused-iff s at e = (λ p. refused-after 4 0 s at 1 0 refl (λ i lt. abs
     from (ShortOutput p) h = absurd h
     from (BadOrder p) h = absurd h
     from Unjoinable h = absurd h
+    from BadWish h = absurd h
+    from (OutOfService p) h = absurd h
+    from BadCounts h = absurd h
+    from TooManySets h = absurd h
+    from BadRounds h = absurd h
+    from (EarlierEvent p) h = absurd h
+    from (BadEvent p) h = absurd h
+    from (SharedFeeder p) h = absurd h
 
 -- A number of a head: "checked .. for 1, 2, then .. 4".
 pub within-refused-iff : (lo hi : ℕ) (s : List ℕ) (at : ℕ) (e : Refusal)

@@ -5,7 +5,7 @@ use mathlib.Core.Logic.{_⊎_}
 use mathlib.Core.List.{List}
 use lib.ListN.{length, getD}
 use Rattle.refusal.specs.declared.Refusal.{Refusal}
-use Rattle.refusal.specs.declared.Refusal.the-variants.{Ended, Malformed, WrongKind, OutsideLimits, Trailing, BadRow, Crowded, WrongFigure, NoBlock, ShortWork, ShortOutput, BadOrder, Unjoinable}
+use Rattle.refusal.specs.declared.Refusal.the-variants.{Ended, Malformed, WrongKind, OutsideLimits, Trailing, BadRow, Crowded, WrongFigure, NoBlock, ShortWork, ShortOutput, BadOrder, Unjoinable, BadWish, OutOfService, BadCounts, TooManySets, BadRounds, EarlierEvent, BadEvent, SharedFeeder}
 use Rattle.refusal.specs.Checked.{accepted}
 use Rattle.number.specs.Numbers.{readNumber}
 use Rattle.number.specs.declared.Reading.{Reading}
@@ -31,6 +31,14 @@ NumberRefused s at (ShortWork p) = ⊥
 NumberRefused s at (ShortOutput p) = ⊥
 NumberRefused s at (BadOrder p) = ⊥
 NumberRefused s at Unjoinable = ⊥
+NumberRefused s at BadWish = ⊥
+NumberRefused s at (OutOfService p) = ⊥
+NumberRefused s at BadCounts = ⊥
+NumberRefused s at TooManySets = ⊥
+NumberRefused s at BadRounds = ⊥
+NumberRefused s at (EarlierEvent p) = ⊥
+NumberRefused s at (BadEvent p) = ⊥
+NumberRefused s at (SharedFeeder p) = ⊥
 
 -- A number of a head is checked "for 1, 2, then .. 4": "a number outside its limits", at "the number's start"
 abbrev pub WithinRefused : (lo hi : ℕ) → List ℕ → (at : ℕ) → Refusal → Type 0

@@ -8,7 +8,7 @@ use mathlib.Core.Option.{Option, none, some}
 use lib.ListN.{length}
 use lib.Dec.{lit≤}
 use Rattle.refusal.specs.declared.Refusal.{Refusal}
-use Rattle.refusal.specs.declared.Refusal.the-variants.{Ended, Malformed, WrongKind, OutsideLimits, Trailing, BadRow, Crowded, WrongFigure, NoBlock, ShortWork, ShortOutput, BadOrder, Unjoinable}
+use Rattle.refusal.specs.declared.Refusal.the-variants.{Ended, Malformed, WrongKind, OutsideLimits, Trailing, BadRow, Crowded, WrongFigure, NoBlock, ShortWork, ShortOutput, BadOrder, Unjoinable, BadWish, OutOfService, BadCounts, TooManySets, BadRounds, EarlierEvent, BadEvent, SharedFeeder}
 use Rattle.refusal.specs.Refusals.{result, numberOf}
 use Rattle.refusal.specs.Checked.{Checked, accepted, refused, _>>=_, outcome, written, verdict, verdictOutcome, writing, writingOutcome}
 use Rattle.number.specs.declared.Reading.{Reading}
@@ -28,8 +28,8 @@ use Rattle.report.specs.Programs.{planInput}
 use Rattle.report.specs.Replies.{planSlices, PlanWork}
 use Rattle.report.specs.Answers.{reply, replyOutcome, orderRead, orderOutcome}
 
--- "a numbered refusal": 1 to 13
-pub demand-1-numbered : (e : Refusal) → (1 ≤ numberOf e) × (numberOf e ≤ 13)
+-- "a numbered refusal": 1 to 21
+pub demand-1-numbered : (e : Refusal) → (1 ≤ numberOf e) × (numberOf e ≤ 21)
 demand-1-numbered (Ended p) = (lit≤ tt, lit≤ tt)
 demand-1-numbered (Malformed p) = (lit≤ tt, lit≤ tt)
 demand-1-numbered WrongKind = (lit≤ tt, lit≤ tt)
@@ -43,6 +43,14 @@ demand-1-numbered (ShortWork p) = (lit≤ tt, lit≤ tt)
 demand-1-numbered (ShortOutput p) = (lit≤ tt, lit≤ tt)
 demand-1-numbered (BadOrder p) = (lit≤ tt, lit≤ tt)
 demand-1-numbered Unjoinable = (lit≤ tt, lit≤ tt)
+demand-1-numbered BadWish = (lit≤ tt, lit≤ tt)
+demand-1-numbered (OutOfService p) = (lit≤ tt, lit≤ tt)
+demand-1-numbered BadCounts = (lit≤ tt, lit≤ tt)
+demand-1-numbered TooManySets = (lit≤ tt, lit≤ tt)
+demand-1-numbered BadRounds = (lit≤ tt, lit≤ tt)
+demand-1-numbered (EarlierEvent p) = (lit≤ tt, lit≤ tt)
+demand-1-numbered (BadEvent p) = (lit≤ tt, lit≤ tt)
+demand-1-numbered (SharedFeeder p) = (lit≤ tt, lit≤ tt)
 
 -- "after a refusal each lent buffer holds what it held before": the slice that a number or a program's reply is put into
 pub demand-1-unchanged : (e : Refusal) (out : List ℕ) → written (refused e) out ≡ out

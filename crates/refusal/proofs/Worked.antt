@@ -3,7 +3,7 @@ use Prim.Native.Nat.{ℕ}
 use mathlib.Core.Path.{_≡_, refl}
 use mathlib.Core.Bool.{false}
 use mathlib.Core.List.{[], _∷_}
-use Rattle.refusal.specs.declared.Refusal.the-variants.{Ended, Malformed, WrongKind, OutsideLimits, Trailing, BadRow, Crowded, WrongFigure, NoBlock, ShortWork, ShortOutput, BadOrder, Unjoinable}
+use Rattle.refusal.specs.declared.Refusal.the-variants.{Ended, Malformed, WrongKind, OutsideLimits, Trailing, BadRow, Crowded, WrongFigure, NoBlock, ShortWork, ShortOutput, BadOrder, Unjoinable, BadWish, OutOfService, BadCounts, TooManySets, BadRounds, EarlierEvent, BadEvent, SharedFeeder}
 use Rattle.refusal.specs.Refusals.{result, refusal, refusalOutcome}
 use Rattle.refusal.specs.Checked.{accepted, refused, _>>=_, require, written, outcome}
 
@@ -21,7 +21,15 @@ pub table : (refusalOutcome (Ended 9) ≡ refusal 1 9)
     × (refusalOutcome (ShortWork 9) ≡ refusal 10 9)
     × (refusalOutcome (ShortOutput 9) ≡ refusal 11 9)
     × (refusalOutcome Unjoinable ≡ refusal 13 0)
-table = (refl, refl, refl, refl, refl, refl, refl, refl, refl, refl, refl, refl, refl)
+    × (refusalOutcome BadWish ≡ refusal 14 0)
+    × (refusalOutcome (OutOfService 9) ≡ refusal 15 9)
+    × (refusalOutcome BadCounts ≡ refusal 16 0)
+    × (refusalOutcome TooManySets ≡ refusal 17 0)
+    × (refusalOutcome BadRounds ≡ refusal 18 0)
+    × (refusalOutcome (EarlierEvent 9) ≡ refusal 19 9)
+    × (refusalOutcome (BadEvent 9) ≡ refusal 20 9)
+    × (refusalOutcome (SharedFeeder 9) ≡ refusal 21 9)
+table = (refl, refl, refl, refl, refl, refl, refl, refl, refl, refl, refl, refl, refl, refl, refl, refl, refl, refl, refl, refl, refl)
 
 -- of two tests that fail the first gives the answer
 pub first-refusal : (require false NoBlock >>= (λ u. require false WrongKind)) ≡ refused NoBlock

@@ -28,6 +28,22 @@ pub enum Refusal {
     BadOrder(usize),
     // Packs that can't be joined: r differs, or the joined nodes, rows or a mu pass the limits.
     Unjoinable,
+    // An operator's wish, or the other's, that is 0 or above 4,096.
+    BadWish,
+    // A row that names a node out of service: its start.
+    OutOfService(usize),
+    // Counts that no split has.
+    BadCounts,
+    // Too many sets of k nodes, times the records, to go through.
+    TooManySets,
+    // A number of rounds, or a placement, outside the limits of the game.
+    BadRounds,
+    // An event earlier than the one before: its index.
+    EarlierEvent(usize),
+    // An event of no node, or one that changes nothing: its index.
+    BadEvent(usize),
+    // A row with two nodes on one feeder: its start.
+    SharedFeeder(usize),
 }
 
 // What a check says: all is good, or the refusal.

@@ -21,6 +21,14 @@ pub fn number(e: Refusal) -> usize
         Refusal::ShortOutput(_) => 11,
         Refusal::BadOrder(_) => 12,
         Refusal::Unjoinable => 13,
+        Refusal::BadWish => 14,
+        Refusal::OutOfService(_) => 15,
+        Refusal::BadCounts => 16,
+        Refusal::TooManySets => 17,
+        Refusal::BadRounds => 18,
+        Refusal::EarlierEvent(_) => 19,
+        Refusal::BadEvent(_) => 20,
+        Refusal::SharedFeeder(_) => 21,
     }
 }
 
@@ -42,5 +50,13 @@ pub fn place(e: Refusal) -> usize
         Refusal::ShortOutput(p) => p,
         Refusal::BadOrder(p) => p,
         Refusal::Unjoinable => 0,
+        Refusal::BadWish => 0,
+        Refusal::OutOfService(p) => p,
+        Refusal::BadCounts => 0,
+        Refusal::TooManySets => 0,
+        Refusal::BadRounds => 0,
+        Refusal::EarlierEvent(p) => p,
+        Refusal::BadEvent(p) => p,
+        Refusal::SharedFeeder(p) => p,
     }
 }

@@ -15,7 +15,7 @@ returns : tie.Need-returns
 returns c = sym (ap refusalOf (c .before .read .given .1))
 
 returns-2 : tie.Need-returns-2
-returns-2 c = search needs
+returns-2 c = sym (ap refusalOf (c .before .read2 .given .1))
 
 pub refusal-of-spec : {M : Type 1} → statement M
 refusal-of-spec = tie.close (tie.spec enum-known-read enum-known-read-2 returns returns-2)
