@@ -4,8 +4,9 @@ from collections import Counter
 from document01 import Refused
 
 CALLS = {"read_number": 4, "read_within": 5, "check_pack": 6, "check_placement": 7, "first_crowded": 8, "write_number": 9,
-         "plan": 10, "row_walk": 11, "check_reply": 12, "plan_reply": 13, "curve": 14, "join": 15}
-WRONG = 14  # one more than the highest refusal's number
+         "plan": 10, "row_walk": 11, "check_reply": 12, "plan_reply": 13, "curve": 14, "join": 15,
+         "plan_operator": 16}
+WRONG = 22  # one more than the highest refusal's number
 LARGEST_64 = 2 ** 64 - 1
 FILLS = (170, 85)
 

@@ -10,6 +10,7 @@ from document01 import (Refused, check_pack, check_placement, check_reply, comb,
                         named_split_by_force, nested_floors, number_bytes, one_floor, plan, plan_reply, read_number, together, walk, worst_case)
 from cases import SEVEN, half_means, of_kind, padded
 from limits import largest_placements
+from operators import grant, plan_operator
 
 ROWS = "012 345 012 034 056 135 146 236 245".split()
 P = bytes([1, 7, 3, 1, 2, 1, 7, 1, 0]) + bytes(int(d) for row in ROWS for d in row)
@@ -106,6 +107,31 @@ class Limits(unittest.TestCase):
         files = list(largest_placements(kind))
         self.assertEqual(list(map(check_reply, files[:9])), expected)
         self.assertEqual([len(data) > 32_768 for data in files].count(True), 1)
+
+
+class Operators(unittest.TestCase):
+    EDGES = [1, 2, 1_000, 2_047, 2_048, 2_049, 3_000, 4_094, 4_095, 4_096]
+
+    def test_grants(self):
+        for w in self.EDGES:
+            for v in self.EDGES:
+                self.assertLessEqual(grant(w, v) + grant(v, w), 4_096)
+                self.assertTrue(min(w, 2_048) <= grant(w, v) <= w)
+                # nothing that could be granted is held back
+                if grant(w, v) < w:
+                    self.assertEqual(grant(w, v) + max(min(v, 2_048), grant(v, w)), 4_096)
+
+    def test_wishes(self):
+        for wish, other in ((0, 1), (1, 0), (4_097, 1), (1, 4_097), (0, 4_097)):
+            for data in (P, P[:-1], b""):
+                self.assertEqual(refusal(plan_operator, data, 2, 3, wish, other, 0, 0), (14, 0))
+        self.assertEqual(refusal(plan_operator, b"", 2, 3, 4_096, 4_096), (1, 0))
+        self.assertEqual(refusal(plan_operator, P, 4, 3, 4_096, 1), (12, 0))
+        self.assertEqual(refusal(plan_operator, P, 2, 3, 4_096, 4_096, 0), (10, 2 * 2_049))
+
+    def test_each_alone(self):
+        self.assertEqual(plan_operator(P, 2, 3, 9, 4_096), plan(P, 2, 3, 9))
+        self.assertEqual(plan_operator(P, 2, 3, 4_096, 1_500), plan(P, 2, 3, 2_596))
 
 
 class BruteForce(unittest.TestCase):

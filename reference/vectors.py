@@ -18,6 +18,7 @@ from cases import NINE, P, SEVEN, check_inputs, in_groups, padded, plan_inputs, 
 from check_packings import pack_bytes  # noqa: E402
 from constructions import catalogue  # noqa: E402
 from document01 import LARGEST, Refused, numbers  # noqa: E402
+from operators import grant, plan_operator  # noqa: E402
 from script import FILLS, LARGEST_64, Script, answer  # noqa: E402
 
 # What the calls behind the programs ask for: room for any line, and what the largest order needs.
@@ -76,6 +77,17 @@ def call_plan(script, s, k, b, work, room):
         return None
     script.call("plan", [s, k, b], [0, len(out), figure, *counts], room=room, written=out, work=work, free=s * (b + 1))
     return out
+
+
+def call_operator(script, s, k, wish, other, work, room):
+    own = [s, k, wish, other]
+    try:
+        out, figure, counts = plan_operator(script.input, *own, work, room)
+    except Refused as e:
+        script.call("plan_operator", own, [e.number, e.place], room=room, work=work)
+        return
+    script.call("plan_operator", own, [0, len(out), figure, *counts], room=room, written=out, work=work,
+                free=s * (grant(wish, other) + 1))
 
 
 def call_walk(script, more=0):
@@ -301,6 +313,35 @@ def plan_vectors(script):
     call_plan(script, 2, 3, 9, 0, 0)
 
 
+def operator_vectors(script):
+    """Both operators' plans on one pack, wishes outside limits before anything else, bad packs and orders, and short slices."""
+    edges = (1, 2_047, 2_048, 2_049, 4_095, 4_096)
+    pairs = sorted(product(edges, edges), key=lambda pair: grant(*pair))
+    script.read(P)
+    for wish, other in pairs:
+        call_operator(script, 2, 3, wish, other, 2 * 4_097, 64 + 4_096 * 3)
+    for s, k, wish, other in ((1, 6, 4_096, 4_095), (3, 4, 4_096, 2_300), (3, 6, 9, 4_096), (2, 2, 9, 9)):
+        call_operator(script, s, k, wish, other, s * (grant(wish, other) + 1), 64 + grant(wish, other) * 3)
+    outside = (0, 4_097, 2 ** 31, LARGEST_64)
+    bad = [(w, 9) for w in outside] + [(9, w) for w in outside] + [(0, 4_097), (4_097, 0), (0, 0)]
+    for data in (P, P[:-1], P + b"\0", NINE, b"", bytes([255] * 4), bytes([1, 1]) + P[2:], P[:-1] + bytes([4]), P[:-1] + bytes([6])):
+        script.read(data)
+        for wish, other in bad:
+            call_operator(script, 2, 3, wish, other, 20, 91)
+        for s, k, wish, other in ((2, 3, 9, 4_096), (2, 3, 4_096, 4_096), (0, 3, 9, 9), (4, 3, 9, 9), (2, 1, 9, 9), (2, 7, 9, 9)):
+            call_operator(script, s, k, wish, other, 20, 91)
+    script.read(P)
+    for wish, other in ((9, 4_096), (4_096, 4_096), (2_049, 2_048), (4_096, 1), (3_000, 1_500)):
+        b = grant(wish, other)
+        work, room = 2 * (b + 1), 64 + b * 3
+        for less, short in ((1, 0), (0, 1), (1, 1), (work, room), (-3, -5)):
+            call_operator(script, 2, 3, wish, other, work - less, room - short)
+    script.read(numbers(1, 3, 2, 1, 0, 1, 1) + bytes([0, 1]))
+    for s in (1, 2):
+        call_operator(script, s, s, 9, 9, 20, 91)
+    call_operator(script, 1, 1, 0, 9, 20, 91)
+
+
 def grouped_rows():
     """4,096 rows of five nodes. Row i has a node of each of five groups of 50: with a, b, c the digits of i to base 17, lowest
     first, group k's is 50 k + (a + k b + k² c) mod 17. So three nodes determine the row, and every three stand together in one
@@ -378,8 +419,8 @@ def padded_vectors(script):
 
 def script_of_all():
     script = Script()
-    for vectors in (number_vectors, small_files, placement_vectors, curve_vectors, join_vectors, plan_vectors, padded_vectors,
-                    crowding_vectors, published_vectors):
+    for vectors in (number_vectors, small_files, placement_vectors, curve_vectors, join_vectors, plan_vectors, operator_vectors,
+                    padded_vectors, crowding_vectors, published_vectors):
         vectors(script)
     return script
 

@@ -8,5 +8,6 @@ pub mod Requests
 pub mod RequestC
 pub mod RequestD
 pub mod RequestF
+pub mod RequestG
 pub mod Starred
 pub mod RequestE

@@ -112,14 +112,17 @@ demand-3-written bytes pack h is s k b limits block work work-left out out-left 
       best = named-highest NestedFloors (headsOf (pack .layers)) s k b (limits .b-most) block;
     }
 
+-- a refusal leaves both slices, whatever the definition is that a call's contract cites
+pub plan-refused : (planned : Checked Placement) {work work-left out out-left : List ℕ} {given : PlanResult} {number place : ℕ}
+    → PlanDone planned work work-left out out-left given
+    → planOutcome given ≡ refusal number place → (work-left ≡ work) × (out-left ≡ out)
+plan-refused (accepted p) d says =
+    absurd (let a = ap planOutcome (d .answer) in let z : _≡_ {A = ℕ} 0 1 = cc in omega arith)
+plan-refused (refused e) d says = (d .work-after, d .output-after)
+
 -- Demand 1 of the planner: "after a refusal each lent buffer holds what it held before".
 pub demand-1-plan-refused : (bytes : List ℕ) (order : Order) (work work-left out out-left : List ℕ) (given : PlanResult) {number place : ℕ}
     → PlanDone (plan bytes order (length work) (length out)) work work-left out out-left given
     → planOutcome given ≡ refusal number place → (work-left ≡ work) × (out-left ≡ out)
-demand-1-plan-refused bytes order work work-left out out-left given {number} {place} done says =
-    go (plan bytes order (length work) (length out)) done
-  where
-    go : (c : Checked Placement) → PlanDone c work work-left out out-left given → (work-left ≡ work) × (out-left ≡ out)
-    go (accepted p) d =
-        absurd (let a = ap planOutcome (d .answer) in let z : _≡_ {A = ℕ} 0 1 = cc in omega arith)
-    go (refused e) d = (d .work-after, d .output-after)
+demand-1-plan-refused bytes order work work-left out out-left given done says =
+    plan-refused (plan bytes order (length work) (length out)) done says

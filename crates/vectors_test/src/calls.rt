@@ -4,6 +4,7 @@ use crate::answers::unknown;
 use crate::script::Given;
 use crate::script::Part;
 use crate::script::part_of;
+use operators::SharedOrder;
 use packing::RowFound;
 ghost use Prim.Native.Nat.{_≤_, _<_};
 
@@ -51,6 +52,17 @@ fn told(call: usize, given: Given, input: &[u8]) -> [usize; 19] {
 // Planning, with the slices lent.
 fn plan(given: Given, input: &[u8], work: &mut [u16], out: &mut [u8]) -> [usize; 19] {
     answers::plan_result(planner_code::plan(input, given.a, given.b, given.c, work, out))
+}
+
+// Planning for one of two operators.
+fn plan_operator(given: Given, input: &[u8], work: &mut [u16], out: &mut [u8]) -> [usize; 19] {
+    let order = SharedOrder {
+        s: given.a,
+        k: given.b,
+        wish: given.c,
+        other: given.d,
+    };
+    answers::plan_result(operators_code::plan_operator(input, order, work, out))
 }
 
 // What the programs say.
@@ -118,6 +130,7 @@ pub(crate) fn answer(
         12 | 13 => replied(call, input, work, out),
         14 => curve(input, work, out),
         15 => join(given, input, out),
+        16 => plan_operator(given, input, work, out),
         _ => told(call, given, input),
     }
 }

@@ -2,10 +2,10 @@
 use libc::STDOUT_FILENO;
 
 // One more than the last call's number.
-const CALLS: usize = 16;
+const CALLS: usize = 17;
 
 // The kind of the vectors that do not agree: one more than the highest refusal's number.
-const WRONG: usize = 14;
+const WRONG: usize = 22;
 
 // The counts, a line for each refusal's number (0 for a result) and one for the vectors that do not agree; a line has a place
 // for each call, and its first count on the first line is that of all vectors.
@@ -71,7 +71,7 @@ fn tell_kind(kind: usize, counts: &[usize]) {
 pub(crate) fn tell_kinds(counts: &[usize]) {
     let mut kind: usize = 0;
     say(
-        b"\nkind read_number read_within check_pack check_placement first_crowded write_number plan row_walk check_reply plan_reply curve join",
+        b"\nkind read_number read_within check_pack check_placement first_crowded write_number plan row_walk check_reply plan_reply curve join plan_operator",
     );
     while kind <= WRONG {
         tell_kind(kind, counts);

@@ -1,0 +1,3 @@
+pub mod Grants
+pub mod Wishes
+pub mod Worked
