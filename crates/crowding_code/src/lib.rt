@@ -22,7 +22,7 @@ fn few_loads(rows: &[u8], c: usize, r: usize, x: usize, bound: usize) -> bool
     if x != 0 {
         return false;
     }
-    rows_code::most_load(rows, c, r, 256) <= bound
+    rows_load::most_load(rows, c, r, 256) <= bound
 }
 
 // Refusal 7 of a layer: the first of c rows of r bytes, all ascending, that holds x+1 nodes which stand together in

@@ -1,5 +1,5 @@
 -- Document 02, (f): "One pass over the rows for the load line". `nodeCounts r b` of the bytes from the first row on is what
--- `rows_code::node_counts` answers for an accepted placement's b rows of r bytes, by its contract. Assumes nothing.
+-- `rows_load::node_counts` answers for an accepted placement's b rows of r bytes, by its contract. Assumes nothing.
 use Prim.Native.Nat.{ℕ, _*_, _≤_, _<_}
 use native.Mathlib.Omega.{arith}
 use mathlib.Core.Path.{_≡_, refl, sym, _∙_, ap}

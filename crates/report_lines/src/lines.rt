@@ -12,7 +12,7 @@ fn line(out: &mut [u8], word: &[u8], numbers: &[usize]) -> usize
     requires { ⌜ length (now word) + 21 * length (now numbers) + 1 ≤ length (now out) ⌝ }
     ensures { λ r. ⌜ Replied (now (word .entry) ++ rest (now (numbers .entry))) r (now (out .entry)) (now (out .exit)) ⌝ }
 {
-    rows_code::copy_bytes(out, word);
+    rows_writer::copy_bytes(out, word);
     crate::numbers::put_rest(out, word.len(), numbers)
 }
 

@@ -1,10 +1,65 @@
-// Rows in bytes: their order, their loads, and writing them.
-mod load;
-mod order;
-mod writer;
+// The order of a row's nodes, and the first row of bytes that is out of order.
+use packing::Node;
+use packing::Record;
+use packing::RowFound;
+pub use rows_writer::copy_bytes;
+pub use rows_writer::write_rows;
+ghost use mathlib.Core.Path.{_≡_};
+ghost use Prim.Native.Nat.{_*_, _≤_};
+ghost use lib.ListN.{length};
+ghost use lib.Dec.{ltb};
+ghost use Rattle.packing.specs.Rows.{inOrder, rowsAt, firstBad};
+ghost use Rattle.packing.specs.Answers.{rowFound};
 
-pub use load::most_load;
-pub use load::node_counts;
-pub use order::first_bad;
-pub use writer::copy_bytes;
-pub use writer::write_rows;
+// Whether the second node's number is above the first one's.
+fn ascend(a: Node, b: Node) -> bool
+    ensures { λ t. ⌜ t ≡ ltb (a .0) (b .0) ⌝ }
+{
+    a.0 < b.0
+}
+
+// Whether the node is one of n nodes.
+fn is_below(node: Node, n: usize) -> bool
+    ensures { λ t. ⌜ t ≡ ltb (node .0) n ⌝ }
+{
+    let v = node.0;
+    (v as usize) < n
+}
+
+// Whether the row's nodes are strictly ascending and all below n: of ascending nodes only the last is compared with n.
+fn row_in_order(row: &[u8], n: usize) -> bool
+    ensures { λ t. ⌜ t ≡ inOrder n (now (row .entry)) ⌝ }
+{
+    if row.len() == 0 {
+        return true;
+    }
+    let mut last = Node(row[0]);
+    let mut i: usize = 1;
+    while i < row.len() {
+        let node = Node(row[i]);
+        if !ascend(last, node) {
+            return false;
+        }
+        last = node;
+        i += 1;
+    }
+    is_below(last, n)
+}
+
+// The first of the c rows of r bytes that is not strictly ascending or has a node at or above n.
+pub fn first_bad(rows: &[u8], c: usize, r: usize, n: usize) -> RowFound
+    requires { ⌜ c * r ≤ length (now rows) ⌝ }
+    ensures { λ found. ⌜ found ≡ rowFound (firstBad n (rowsAt r c (now (rows .entry)))) ⌝ }
+{
+    let mut j: usize = 0;
+    let mut at: usize = 0;
+    while j < c {
+        let end = at + r;
+        if !row_in_order(&rows[at..end], n) {
+            return RowFound::At(Record(j));
+        }
+        at = end;
+        j += 1;
+    }
+    RowFound::Nothing
+}

@@ -124,7 +124,7 @@ pub(crate) fn answer(
     out: &mut [u8],
 ) -> [usize; 19] {
     match call {
-        9 => answers::number_written(number_code::write_number(out, given.a)),
+        9 => answers::number_written(number_writer::write_number(out, given.a)),
         10 => plan(given, input, work, out),
         11 => crate::walks::walked(input, out),
         12 | 13 => replied(call, input, work, out),

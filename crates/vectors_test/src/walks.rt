@@ -70,7 +70,7 @@ fn put(out: &mut [u8], at: usize, row: [u8; 5], length: usize) -> usize {
     if out.len() - at < length {
         return out.len();
     }
-    rows_code::copy_bytes(&mut out[at..], &row[0..length]);
+    rows_writer::copy_bytes(&mut out[at..], &row[0..length]);
     at + length
 }
 
