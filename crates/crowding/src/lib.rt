@@ -1,4 +1,4 @@
-// What a search for crowded sets carries from function to function. The code is in crowding_chains and crowding_code.
+// What a search for crowded sets carries from function to function.
 use packing::Node;
 
 // The positions from `from` to `to`: places of bytes in the rows.

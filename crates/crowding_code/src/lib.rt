@@ -1,7 +1,4 @@
 // The packing test on rows in bytes.
-mod least;
-mod visits;
-
 use crowding::Level;
 use packing::RowFound;
 ghost use mathlib.Core.Path.{_≡_};
@@ -40,7 +37,7 @@ pub fn first_crowded(rows: &[u8], c: usize, r: usize, x: usize, bound: usize) ->
     }
     let end = c * r;
     let level = Level { r, w: x };
-    let least = crate::least::least_crowded(&rows[0..end], c, level, bound);
+    let least = crowding_search::least_crowded(&rows[0..end], c, level, bound);
     if least.0 < 65536 {
         return RowFound::At(least);
     }

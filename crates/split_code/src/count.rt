@@ -57,6 +57,6 @@ pub(crate) fn layer_count(
     let w = b + 1;
     let from = x * w;
     let end = from + w;
-    let u = split_table::steps(layers, order, x);
+    let u = split_steps::steps(layers, order, x);
     best_count(&work[from..end], u, left)
 }

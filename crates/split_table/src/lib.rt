@@ -1,9 +1,6 @@
 // The planner's table in the working slice: line x has the least losses of 0, .., b records in the layers below x.
 mod base;
-mod layer_steps;
-mod raising;
 
-pub use layer_steps::steps;
 use layers::LayerHead;
 use placement::Order;
 ghost use Prim.Native.Nat.{suc, _*_, _≤_, _<_};
@@ -22,8 +19,8 @@ pub fn fill(layers: [LayerHead; 5], order: Order, work: &mut [u16])
     crate::base::base_line(work, w);
     let mut x: usize = 1;
     while x < s {
-        let u = crate::layer_steps::steps(layers, order, x - 1);
-        crate::raising::raise_line(work, x * w, w, u);
+        let u = split_steps::steps(layers, order, x - 1);
+        split_lines::raise_line(work, x * w, w, u);
         x += 1;
     }
 }

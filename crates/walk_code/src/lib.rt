@@ -1,13 +1,7 @@
-// The row walk: a placement's rows, one after the other. A walk is opened here; its step and its rows are passed on.
-mod place;
-mod rows;
+// The row walk: a placement's rows, one after the other. A walk is opened here; its step is passed on.
 mod stepping;
 
-pub use place::opened_place;
 use placement::PlacementAnswer;
-pub use rows::has_row;
-pub use rows::moved;
-pub use rows::row_at;
 pub use stepping::Stepped;
 pub use stepping::Walk;
 pub use stepping::step;
@@ -45,7 +39,7 @@ pub fn open_walk<'a>(bytes: &'a [u8]) -> OpenedWalk<'a>
         × (o .walk .place ≡ openedPlace (walkOpened (openWalk (now (bytes .entry))))) ⌝ }
 {
     let answer = opened(bytes);
-    let place = opened_place(answer);
+    let place = walk_rows::opened_place(answer);
     OpenedWalk {
         answer,
         walk: Walk { bytes, place },

@@ -23,8 +23,8 @@ pub fn step<'a>(walk: Walk<'a>) -> Stepped<'a>
 {
     let bytes = walk.bytes;
     let place = walk.place;
-    let row = crate::rows::row_at(bytes, place);
-    let next = crate::rows::moved(bytes, place);
+    let row = walk_rows::row_at(bytes, place);
+    let next = walk_rows::moved(bytes, place);
     Stepped {
         row,
         walk: Walk { bytes, place: next },

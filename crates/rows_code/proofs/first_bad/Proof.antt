@@ -1,4 +1,4 @@
--- `rows_code::order::first_bad` meets its contract. The loop's invariant: the first bad row is the first bad one of the rows from row j
+-- `rows_code::first_bad` meets its contract. The loop's invariant: the first bad row is the first bad one of the rows from row j
 -- on, which begin at byte `at`. Assumes nothing.
 use Prim.Native.Nat.{_*_, _≤_, _-_}
 use native.Mathlib.Omega.{arith}

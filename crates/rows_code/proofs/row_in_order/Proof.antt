@@ -1,4 +1,4 @@
--- `rows_code::order::row_in_order` meets its contract. The loop's invariant: the row's order is that of the nodes not yet looked at,
+-- `rows_code::row_in_order` meets its contract. The loop's invariant: the row's order is that of the nodes not yet looked at,
 -- after the last one that was. Assumes nothing.
 use Prim.Native.Nat.{_≤_, _-_}
 use native.Mathlib.Omega.{arith}

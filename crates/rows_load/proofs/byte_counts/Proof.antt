@@ -1,4 +1,4 @@
--- `rows_code::load::byte_counts` meets its contract. The loop's invariant: the counts are those of the bytes seen. Assumes nothing.
+-- `rows_load::byte_counts` meets its contract. The loop's invariant: the counts are those of the bytes seen. Assumes nothing.
 use Prim.Native.Nat.{_≤_, _<_, _-_}
 use native.Mathlib.Omega.{arith}
 use mathlib.Core.Path.{_≡_, refl}

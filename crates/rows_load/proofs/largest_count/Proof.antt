@@ -1,4 +1,4 @@
--- `rows_code::load::largest_count` meets its contract. The loop's invariant: the largest count is the largest one looked at, or the
+-- `rows_load::largest_count` meets its contract. The loop's invariant: the largest count is the largest one looked at, or the
 -- largest of the others. Assumes nothing.
 use Prim.Native.Nat.{_+_, _-_, max, _≤_}
 use native.Mathlib.Omega.{arith}

@@ -1,4 +1,4 @@
--- `rows_code::load::most_load` meets its contract: the largest of the counts of the first n nodes. Assumes nothing.
+-- `rows_load::most_load` meets its contract: the largest of the counts of the first n nodes. Assumes nothing.
 use native.Mathlib.Nat.{sub-zero}
 use mathlib.Core.Path.{_∙_, ap}
 use borrow.Author.Needs.{needs}

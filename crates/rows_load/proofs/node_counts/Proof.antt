@@ -1,4 +1,4 @@
--- `rows_code::load::node_counts` meets its contract: in ascending rows the bytes that are v are the rows that hold v. Assumes
+-- `rows_load::node_counts` meets its contract: in ascending rows the bytes that are v are the rows that hold v. Assumes
 -- nothing.
 use native.Mathlib.Omega.{arith}
 use borrow.Author.Needs.{needs}

@@ -1,4 +1,4 @@
--- `rows_code::writer::copy_bytes` meets its contract. The loop's invariant: the bytes before `place` stand at the front, and what
+-- `rows_writer::copy_bytes` meets its contract. The loop's invariant: the bytes before `place` stand at the front, and what
 -- follows them is as it was. Assumes nothing.
 use Prim.Native.Nat.{_≤_, _-_}
 use native.Mathlib.Omega.{arith}

@@ -1,4 +1,4 @@
--- `rows_code::writer::next_block` meets its contract: below m the remainder is the number itself, and m leaves none. Assumes nothing.
+-- `rows_writer::next_block` meets its contract: below m the remainder is the number itself, and m leaves none. Assumes nothing.
 use native.Mathlib.Nat.{mod-eq-of-lt}
 use mathlib.Core.Path.{sym}
 use borrow.Author.Needs.{needs}

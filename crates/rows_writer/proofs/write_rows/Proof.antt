@@ -1,4 +1,4 @@
--- `rows_code::writer::write_rows` meets its contract. The loop's invariant: the rows so far stand at the front, what follows them is as
+-- `rows_writer::write_rows` meets its contract. The loop's invariant: the rows so far stand at the front, what follows them is as
 -- it was, and the next row is a copy of block `written` mod m. Assumes nothing.
 use Prim.Native.Nat.{_-_}
 use native.Mathlib.Omega.{arith}

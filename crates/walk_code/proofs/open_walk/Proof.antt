@@ -59,10 +59,10 @@ use Rattle.walk_code.proofs.opened as opened
 use Rattle.walk_code.proofs.opened.Symbol as opened-def
 use Rattle.walk_code.proofs.opened.Symbol.{name as #walk-code·opened}
 use Rattle.walk_code.proofs.opened.Met as opened-thm
-use Rattle.walk_code.proofs.place.opened_place as place
-use Rattle.walk_code.proofs.place.opened_place.Symbol as place-def
-use Rattle.walk_code.proofs.place.opened_place.Symbol.{name as #walk-place·opened-place}
-use Rattle.walk_code.proofs.place.opened_place.Met as place-thm
+use Rattle.walk_rows.proofs.opened_place as place
+use Rattle.walk_rows.proofs.opened_place.Symbol as place-def
+use Rattle.walk_rows.proofs.opened_place.Symbol.{name as #walk-rows·opened-place}
+use Rattle.walk_rows.proofs.opened_place.Met as place-thm
 use Rattle.walk_code.proofs.open_walk.Key.{name as #walk-code·open-walk}
 use Rattle.walk_code.proofs.open_walk as open-walk
 use Rattle.walk_code.proofs.open_walk.Statement as stated
@@ -205,7 +205,7 @@ module _ {M : Type 1} (𝓤 : URA M) (H : Heap 𝓤) (A : Atoms 𝓤) (W : Given
         )) .0))
 
   module _ (C : Calls 𝓤 H) (Λ : Loops 𝓤 H) (fm : FmC 𝓤 H (W .laws) C) (known-opened : Triple 𝓤 (C #walk-code·opened) (Opened 𝓤 H A mem run))
-      (known-place : Triple 𝓤 (C #walk-place·opened-place) (OpenedPlace 𝓤 H A mem run)) where
+      (known-place : Triple 𝓤 (C #walk-rows·opened-place) (OpenedPlace 𝓤 H A mem run)) where
     walk : Is (ShrSlice (named 0) κ u8) s (v ∷ []) → ent 𝓤 (onEntry 𝓤 H A open-walk.signature (κ, tt) (q, tt) (s, tt) (v ∷ [], tt))
         (WpFn 𝓤 H C Λ code.function (v ∷ []) Post)
     walk su =
@@ -242,7 +242,7 @@ module _ {M : Type 1} (𝓤 : URA M) (H : Heap 𝓤) (A : Atoms 𝓤) (W : Given
 
 module _ {M : Type 1} (𝓤 : URA M) (H : Heap 𝓤) (A : Atoms 𝓤) (W : Given 𝓤 H A) (mem : Memory → SProp 𝓤) (run : Routine → Fun 𝓤) where
   open-walk-walks : (C : Calls 𝓤 H) (Λ : Loops 𝓤 H) → FmC 𝓤 H (W .laws) C → Triple 𝓤 (C #walk-code·opened) (Opened 𝓤 H A mem run)
-      → Triple 𝓤 (C #walk-place·opened-place) (OpenedPlace 𝓤 H A mem run)
+      → Triple 𝓤 (C #walk-rows·opened-place) (OpenedPlace 𝓤 H A mem run)
       → Walks 𝓤 H A open-walk.ended stayed (WpFn 𝓤 H C Λ code.function) (open-walk.clauses 𝓤 H A mem run)
   open-walk-walks C Λ fm known-opened known-place = walked 𝓤 H A open-walk.ended stayed (open-walk.clauses 𝓤 H A mem run) (WpFn 𝓤 H C Λ code.function)
       (λ κs. (slice-vals, tt)) (λ κs. (shr-slice-tells (named 0) (κs .0) u8, tt))
@@ -250,7 +250,7 @@ module _ {M : Type 1} (𝓤 : URA M) (H : Heap 𝓤) (A : Atoms 𝓤) (W : Given
 
 open-walk-meets : {M : Type 1} (𝓤 : URA M) (H : Heap 𝓤) (A : Atoms 𝓤) (W : Given 𝓤 H A) (mem : Memory → SProp 𝓤) (run : Routine → Fun 𝓤)
     (𝓣 : Tables 𝓤 H)
-    → Triple 𝓤 (𝓣 .C #walk-code·opened) (Opened 𝓤 H A mem run) → Triple 𝓤 (𝓣 .C #walk-place·opened-place) (OpenedPlace 𝓤 H A mem run)
+    → Triple 𝓤 (𝓣 .C #walk-code·opened) (Opened 𝓤 H A mem run) → Triple 𝓤 (𝓣 .C #walk-rows·opened-place) (OpenedPlace 𝓤 H A mem run)
     → Meets 𝓤 H A open-walk.signature (WpFn 𝓤 H (𝓣 .C) (𝓣 .Λ) code.function) (open-walk.spec 𝓤 H A mem run)
 open-walk-meets 𝓤 H A W mem run 𝓣 known-opened known-place = walk-meets 𝓤 H A open-walk.ended stayed W
     (goes-none-slice 𝓤 H A W 1 (0 ∷ []) tt (plain (λ _. u8)) yes, tt) (open-walk.clauses 𝓤 H A mem run) (WpFn 𝓤 H (𝓣 .C) (𝓣 .Λ) code.function)
@@ -265,5 +265,5 @@ open-walk-spec 𝓤 H 𝓜 𝓖 𝓡 =
     (open-walk-meets 𝓤 H (𝓖 .A) (givenOf 𝓤 H 𝓜 𝓖) (𝓜 .mem) (𝓡 .run) (tablesOf 𝓤 H 𝓜 (tables 𝓤 H 𝓜 𝓡 code.env))
     (cited 𝓤 H (Opened 𝓤 H (𝓖 .A) (𝓜 .mem) (𝓡 .run)) 𝓜 𝓡 code.env #walk-code·opened opened-def.routine code.calls-walk-code·opened
     (opened-thm.met 𝓤 H 𝓜 𝓖 𝓡))
-    (cited 𝓤 H (OpenedPlace 𝓤 H (𝓖 .A) (𝓜 .mem) (𝓡 .run)) 𝓜 𝓡 code.env #walk-place·opened-place place-def.routine code.calls-walk-code·place·opened-place
+    (cited 𝓤 H (OpenedPlace 𝓤 H (𝓖 .A) (𝓜 .mem) (𝓡 .run)) 𝓜 𝓡 code.env #walk-rows·opened-place place-def.routine code.calls-walk-rows·opened-place
     (place-thm.met 𝓤 H 𝓜 𝓖 𝓡)))

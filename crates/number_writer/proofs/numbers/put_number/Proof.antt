@@ -1,4 +1,4 @@
--- `number_code::numbers::put_number` meets its contract: the number fits, so it is written. Assumes nothing.
+-- `number_writer::numbers::put_number` meets its contract: the number fits, so it is written. Assumes nothing.
 use native.Mathlib.Omega.{arith}
 use borrow.Author.Needs.{needs}
 use Rattle.number_writer.proofs.numbers.Putting.{Put, number-put, put-length, put-not-refused}

@@ -1,4 +1,4 @@
--- `number_code::numbers::write_numbers` meets its contract. The loop's invariant: the first i numbers stand at the front, and
+-- `number_writer::numbers::write_numbers` meets its contract. The loop's invariant: the first i numbers stand at the front, and
 -- what follows them is as it was. Assumes nothing.
 use Prim.Native.Nat.{_-_}
 use lib.ListN.{length}

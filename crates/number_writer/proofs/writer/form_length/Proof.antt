@@ -1,4 +1,4 @@
--- `number_code::writer::form_length` meets its contract: one group holds 128 numbers, two 16,384, three 2,097,152. Assumes nothing.
+-- `number_writer::writer::form_length` meets its contract: one group holds 128 numbers, two 16,384, three 2,097,152. Assumes nothing.
 use mathlib.Core.Path.{sym}
 use native.Mathlib.Omega.{arith}
 use Rattle.number.proofs.Laws.{numberBytes-length-one}

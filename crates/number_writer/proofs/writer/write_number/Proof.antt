@@ -1,4 +1,4 @@
--- `number_code::writer::write_number` meets its contract. The loop's invariant: the groups of what is left, stored from the present
+-- `number_writer::writer::write_number` meets its contract. The loop's invariant: the groups of what is left, stored from the present
 -- place on, make the whole form at the slice's start. The measure is what is left. Assumes nothing.
 use native.Mathlib.Omega.{arith}
 use mathlib.Core.Path.{_∙_}

@@ -54,14 +54,14 @@ use Rattle.walk_code.proofs.stepping.Walk as T
 use Rattle.walk_code.proofs.stepping.Walk.Laws as T′
 use Rattle.walk_code.proofs.stepping.Stepped as S
 use Rattle.walk_code.proofs.stepping.Stepped.Laws as S′
-use Rattle.walk_code.proofs.rows.row_at as row
-use Rattle.walk_code.proofs.rows.row_at.Symbol as row-def
-use Rattle.walk_code.proofs.rows.row_at.Symbol.{name as #walk-rows·row-at}
-use Rattle.walk_code.proofs.rows.row_at.Met as row-thm
-use Rattle.walk_code.proofs.rows.moved as moved
-use Rattle.walk_code.proofs.rows.moved.Symbol as moved-def
-use Rattle.walk_code.proofs.rows.moved.Symbol.{name as #walk-rows·moved}
-use Rattle.walk_code.proofs.rows.moved.Met as moved-thm
+use Rattle.walk_rows.proofs.row_at as row
+use Rattle.walk_rows.proofs.row_at.Symbol as row-def
+use Rattle.walk_rows.proofs.row_at.Symbol.{name as #walk-rows·row-at}
+use Rattle.walk_rows.proofs.row_at.Met as row-thm
+use Rattle.walk_rows.proofs.moved as moved
+use Rattle.walk_rows.proofs.moved.Symbol as moved-def
+use Rattle.walk_rows.proofs.moved.Symbol.{name as #walk-rows·moved}
+use Rattle.walk_rows.proofs.moved.Met as moved-thm
 use Rattle.walk_code.proofs.stepping.step.Key.{name as #walk-step·step}
 use Rattle.walk_code.proofs.stepping.step as step
 use Rattle.walk_code.proofs.stepping.step.Statement as stated
@@ -283,7 +283,7 @@ step-spec 𝓤 H 𝓜 𝓖 𝓡 =
     entered 𝓤 H (tripleOf 𝓤 H (𝓖 .A) step.signature (step.spec 𝓤 H (𝓖 .A) (𝓜 .mem) (𝓡 .run)))
     (tables 𝓤 H 𝓜 𝓡 code.env .C) (tables 𝓤 H 𝓜 𝓡 code.env .Λ) #walk-step·step code.function (code.unfolded 𝓤 H 𝓜 𝓡)
     (step-meets 𝓤 H (𝓖 .A) (givenOf 𝓤 H 𝓜 𝓖) (𝓜 .mem) (𝓡 .run) (tablesOf 𝓤 H 𝓜 (tables 𝓤 H 𝓜 𝓡 code.env))
-    (cited 𝓤 H (RowAt 𝓤 H (𝓖 .A) (𝓜 .mem) (𝓡 .run)) 𝓜 𝓡 code.env #walk-rows·row-at row-def.routine code.calls-walk-code·rows·row-at
+    (cited 𝓤 H (RowAt 𝓤 H (𝓖 .A) (𝓜 .mem) (𝓡 .run)) 𝓜 𝓡 code.env #walk-rows·row-at row-def.routine code.calls-walk-rows·row-at
     (row-thm.met 𝓤 H 𝓜 𝓖 𝓡))
-    (cited 𝓤 H (Moved 𝓤 H (𝓖 .A) (𝓜 .mem) (𝓡 .run)) 𝓜 𝓡 code.env #walk-rows·moved moved-def.routine code.calls-walk-code·rows·moved
+    (cited 𝓤 H (Moved 𝓤 H (𝓖 .A) (𝓜 .mem) (𝓡 .run)) 𝓜 𝓡 code.env #walk-rows·moved moved-def.routine code.calls-walk-rows·moved
     (moved-thm.met 𝓤 H 𝓜 𝓖 𝓡)))
