@@ -1,7 +1,4 @@
 // The curve of a placement: its figure for every number of failures.
-mod binomials;
-mod figures;
-
 use layers::LayerHead;
 use placement::PlacementAnswer;
 use placement::PlacementHead;
@@ -25,7 +22,7 @@ fn write_accepted(head: PlacementHead, layers: [LayerHead; 5], out: &mut [u16]) 
         return Writing::Refused(Refusal::ShortOutput(entries));
     }
     let rule = placement_figure::rule_of(head.kind);
-    figures::write_figures(rule, s, b, layers, entries, out);
+    curve_figures::write_figures(rule, s, b, layers, entries, out);
     Writing::Written(entries)
 }
 

@@ -21,7 +21,7 @@ pub(crate) fn check_line(input: &[u8], out: &mut [u8]) -> usize
             let b = head.b;
             let first = head.first;
             let most = rows_load::most_load(&input[first..], b, r, n);
-            let mean = report_lines::mean_load(b, r, n);
+            let mean = report_mean::mean_load(b, r, n);
             let summary = Summary {
                 figure: head.figure,
                 b,

@@ -1,6 +1,4 @@
 // The counts of the named split, chosen with a table of least losses in the working slice.
-mod count;
-
 use layers::LayerHead;
 use placement::Order;
 ghost use Prim.Native.Nat.{suc, _*_, _≤_};
@@ -21,7 +19,7 @@ pub fn choose_counts(layers: [LayerHead; 5], order: Order, work: &mut [u16]) -> 
     let mut left = b;
     let mut x = s - 1;
     while 0 < x {
-        let c = crate::count::layer_count(layers, order, work, x, left);
+        let c = split_count::layer_count(layers, order, work, x, left);
         counts[x] = c;
         left -= c;
         x -= 1;
