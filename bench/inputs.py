@@ -1,4 +1,4 @@
-"""Makes the benchmark's inputs: `check-*` are inputs of `check`, `plan-*` of `plan`.
+"""Makes the benchmark's inputs: `check-*` are inputs of `check`, `plan-*` of `plan`, `join-*` of `join_bench`.
 
     python3 bench/inputs.py FOLDER
 
@@ -9,10 +9,12 @@ import random
 import sys
 from collections import Counter
 from itertools import combinations
+from math import lcm
 from pathlib import Path
 
 REPOSITORY = Path(__file__).resolve().parent.parent
 sys.path.insert(0, str(REPOSITORY / "reference"))
+from chunks import join, three_packs  # noqa: E402
 from document01 import check_pack, check_reply, figure  # noqa: E402
 from cases import NINE, P, numbers, order  # noqa: E402
 
@@ -104,11 +106,38 @@ def plan_inputs(draw):
         yield f"plan-b{b}", order(5, 6, b) + packs[7]
 
 
+def bounds_for(least, parts):
+    """The least joined mu and each pack's, where the pack's goes into it so many times and holds its rows."""
+    joined = lcm(*parts)
+    joined *= max(-(-bound * part // joined) for bound, part in zip(least, parts))
+    return [joined // part for part in parts]
+
+
+def join_inputs(draw):
+    """Three packs of 85 nodes each that make 255 nodes and 4,096 rows of five: each with its own rows, and with 3, 2 and 1 copies."""
+    yield "join-nine", three_packs(P, P, P)
+    for name, parts in ("whole", [1, 1, 1]), ("copies", [3, 2, 1]):
+        layers = [[], [], []]
+        for x in range(5):
+            sizes = [819 // sum(parts)] * 3
+            sizes[2] += (820 if x == 0 else 819) - sum(part * size for part, size in zip(parts, sizes))
+            rows = [random_rows(draw, 85, 5, size) for size in sizes]
+            bounds = bounds_for([least_bound(mine, x) for mine in rows], parts)
+            assert all(bound < size for bound, size in zip(bounds, sizes))
+            for own, bound, mine in zip(layers, bounds, rows):
+                own.append((bound, mine))
+        packs = [pack(own, 85, 5) for own in layers]
+        joined = check_pack(join(packs))
+        assert joined["n"] == NODES and sum(len(rows) for _, rows in joined["layers"]) == MOST
+        yield f"join-{name}", three_packs(*packs)
+
+
 def inputs():
     draw = random.Random(31)
     yield from check_inputs(draw)
     yield from plan_inputs(draw)
     yield from load_inputs(random.Random(32))
+    yield from join_inputs(random.Random(34))
 
 
 def main(folder):

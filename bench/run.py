@@ -1,7 +1,7 @@
 """Runs two folders of programs on the benchmark's inputs and prints how they compare, ours divided by the baseline's.
 
-    python3 bench/run.py OURS BASELINE [--check NAME] [--plan NAME] [--base-check NAME] [--base-plan NAME] [--runs N]
-                           [--only TEXT]
+    python3 bench/run.py OURS BASELINE [--check NAME] [--plan NAME] [--join NAME] [--base-check NAME] [--base-plan NAME]
+                           [--base-join NAME] [--runs N] [--only TEXT]
 
 OURS has programs built by `rt` (target/bin), BASELINE those of cargo (bench/baseline/target/release). Each input is given
 to both in turn, N times; a run is one whole process, its start included, and the two replies must be equal. The table has
@@ -124,15 +124,18 @@ def main():
     options.add_argument("baseline", type=Path)
     options.add_argument("--check", default="check_main", help="our program `check`")
     options.add_argument("--plan", default="plan_main", help="our program `plan`")
+    options.add_argument("--join", default="join_bench", help="our program that joins three packs")
     options.add_argument("--base-check", default="check", help="the baseline's `check`, or check_sorted")
     options.add_argument("--base-plan", default="plan", help="the baseline's `plan`, or plan_candidates")
+    options.add_argument("--base-join", default="join", help="the baseline's program that joins three packs")
     options.add_argument("--runs", type=int, default=11)
     options.add_argument("--only", default="", help="only inputs with this text in their names")
     given = options.parse_args()
     nine = {name: data for name, data in inputs() if name.endswith("-nine")}
     programs = {kind: [words_for((given.ours / ours).resolve(), nine[f"{kind}-nine"]),
                        words_for((given.baseline / base).resolve(), nine[f"{kind}-nine"])]
-                for kind, ours, base in [("check", given.check, given.base_check), ("plan", given.plan, given.base_plan)]}
+                for kind, ours, base in [("check", given.check, given.base_check), ("plan", given.plan, given.base_plan),
+                                         ("join", given.join, given.base_join)]}
     with tempfile.TemporaryDirectory() as folder:
         table(programs, folder, given.runs, given.only)
 

@@ -1,9 +1,10 @@
-"""Runs the baseline's programs on the inputs of reference/cases.py and compares the replies byte for byte.
+"""Runs the baseline's programs on the inputs of reference/cases.py, and on random packs joined, and compares the replies byte for byte.
 
     python3 bench/test_baseline.py
 
 Needs the baseline built (bench/README.md).
 """
+import random
 import subprocess
 import sys
 from pathlib import Path
@@ -11,17 +12,31 @@ from pathlib import Path
 REPOSITORY = Path(__file__).resolve().parent.parent
 sys.path.insert(0, str(REPOSITORY / "reference"))
 
-from cases import check_inputs, plan_inputs  # noqa: E402
+from cases import P, check_inputs, damaged, plan_inputs, random_pack  # noqa: E402
+from chunks import join_reply, three_packs  # noqa: E402
 from document01 import check_reply, plan_reply  # noqa: E402
 
 PROGRAMS = REPOSITORY / "bench" / "baseline" / "target" / "release"
-VECTORS = {"check": "check", "check_sorted": "check", "plan": "plan", "plan_candidates": "plan"}
+VECTORS = {"check": "check", "check_sorted": "check", "plan": "plan", "plan_candidates": "plan", "join": "join"}
+
+
+def join_inputs():
+    """Three random packs, of one r where there are such, and the same with some damage."""
+    draw = random.Random(8)
+    packs = [random_pack(draw) for _ in range(200)]
+    yield three_packs(P, P, P)
+    for _ in range(400):
+        r = draw.choice([2, 3, 4, 5, None])
+        data = three_packs(*(draw.choice([pack for _, own, pack in packs if r in (own, None)]) for _ in range(3)))
+        yield data
+        yield damaged(draw, data)
 
 
 def pairs_of_replies():
     """The pairs of input and reply of each program."""
     return {"check": [(data, check_reply(data)) for data in check_inputs()],
-            "plan": [(data, plan_reply(data)) for data in plan_inputs()]}
+            "plan": [(data, plan_reply(data)) for data in plan_inputs()],
+            "join": [(data, join_reply(data)) for data in join_inputs()]}
 
 
 def differences(program, pairs):

@@ -4,7 +4,7 @@ Written from the documents alone. Standard library only.
 """
 from math import lcm
 
-from document01 import Refused, check_pack, numbers
+from document01 import Refused, check_pack, numbers, read_number
 
 
 def joined(packs):
@@ -54,3 +54,24 @@ def join(files, output=None):
     if output is not None and output < len(data):
         raise Refused(11, len(data))
     return data
+
+
+def three_packs(first, second, third):
+    """The input of the benchmark's program `join_bench`: the lengths of the first two packs, and the packs."""
+    return numbers(len(first), len(second)) + first + second + third
+
+
+def join_reply(data):
+    """What `join_bench` writes: nothing where the lengths can't be read; a length past the input is that of an empty pack."""
+    try:
+        one, at = read_number(data, 0)
+        two, at = read_number(data, at)
+    except Refused:
+        return b""
+    rest = data[at:]
+    others = rest[one:]
+    files = [rest[:one] if one <= len(rest) else b"", others[:two] if two <= len(others) else b"", others[two:]]
+    try:
+        return join(files)
+    except Refused as e:
+        return f"refused {e.number} {e.place}\n".encode()

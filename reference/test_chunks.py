@@ -9,9 +9,12 @@ sys.path.insert(0, str(Path(__file__).resolve().parent))
 sys.path.insert(0, str(Path(__file__).resolve().parent.parent / "packings"))
 
 from cases import random_pack
-from chunks import join, joined, pack_bytes
-from constructions import affine, bose, GF3
+from chunks import join, join_reply, joined, pack_bytes, three_packs
+from constructions import GF2, GF3, affine, bose, projective_plane
 from document01 import Refused, check_pack, check_placement, plan, together, worst_case
+
+
+PROGRAM = Path(__file__).resolve().parent.parent / "crates" / "join_bench"
 
 
 def refusal(call, *args):
@@ -64,6 +67,17 @@ class Joins(unittest.TestCase):
         for s, k, b in [(2, 2, 12), (2, 3, 20), (3, 4, 24)]:
             placement = check_placement(plan(data, s, k, b)[0])
             self.assertGreaterEqual(worst_case(placement), placement["F"])
+
+    def test_program(self):
+        """The benchmark's program has three published packings as its input: the affine plane, Bose's triples and the Fano plane."""
+        files = [pack(9, 3, [(1, []), (1, affine(GF3, 2))]), pack(9, 3, [(1, []), (1, bose(9))]), pack(7, 3, [(1, []), (1, projective_plane(GF2))])]
+        data = three_packs(*files)
+        self.assertEqual((PROGRAM / "stdin").read_bytes(), data)
+        self.assertEqual((PROGRAM / "stdout").read_bytes(), join_reply(data))
+        self.assertEqual(join_reply(data), join(files))
+        self.assertEqual(join_reply(bytes([128])), b"")
+        self.assertEqual(join_reply(three_packs(files[0][:-1], files[1], files[2])), b"refused 1 %d\n" % (len(files[0]) - 1))
+        self.assertEqual(join_reply(bytes([200, 1, 1])), b"refused 1 0\n")
 
     def test_limits(self):
         self.assertIsNone(refusal(join, [loose(127, 1, 0), loose(128, 1, 0)]))

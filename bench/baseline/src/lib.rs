@@ -2,6 +2,7 @@
 
 pub mod crowding;
 pub mod file;
+pub mod join;
 pub mod number;
 pub mod sorted;
 pub mod split;
@@ -60,6 +61,11 @@ pub fn check_reply<T: PackingTest>(input: &[u8]) -> Vec<u8> {
 /// What `plan` writes for these bytes.
 pub fn plan_reply<T: PackingTest>(input: &[u8], fill: Fill) -> Vec<u8> {
     plan::<T>(input, fill).unwrap_or_else(refused_line)
+}
+
+/// What `join_bench` writes for these bytes.
+pub fn join_reply<T: PackingTest>(input: &[u8]) -> Vec<u8> {
+    join::join::<T>(input).map_or_else(Vec::new, |joined| joined.unwrap_or_else(refused_line))
 }
 
 fn refused_line(e: Refusal) -> Vec<u8> {
