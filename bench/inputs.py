@@ -16,15 +16,17 @@ REPOSITORY = Path(__file__).resolve().parent.parent
 sys.path.insert(0, str(REPOSITORY / "reference"))
 from chunks import join, three_packs  # noqa: E402
 from document01 import check_pack, check_reply, figure  # noqa: E402
-from cases import NINE, P, numbers, order  # noqa: E402
+from cases import order  # noqa: E402
+from reading import base_numbers, numbers  # noqa: E402
+from seven import NINE, P  # noqa: E402
 
 NODES = 255
 MOST = 4096
 SIZES = [256, 512, 1024, 2048, 4096]
 
 
-def random_rows(draw, n, r, size):
-    return [tuple(sorted(draw.sample(range(n), r))) for _ in range(size)]
+def random_rows(draw, nodes, r, size):
+    return [tuple(sorted(draw.sample(nodes, r))) for _ in range(size)]
 
 
 def least_bound(rows, x):
@@ -32,10 +34,10 @@ def least_bound(rows, x):
     return max(Counter(nodes for row in rows for nodes in combinations(row, x + 1)).values(), default=1)
 
 
-def tight_layers(draw, n, r, sizes):
-    """Random rows for each layer under their least bound, which stays below a loaded layer's number of rows."""
+def tight_layers(draw, nodes, r, sizes):
+    """Random rows of these nodes for each layer under their least bound, which stays below a loaded layer's number of rows."""
     for x, size in enumerate(sizes):
-        rows = random_rows(draw, n, r, size)
+        rows = random_rows(draw, nodes, r, size)
         bound = least_bound(rows, x)
         assert size == 0 or bound < size
         yield bound, rows
@@ -49,19 +51,23 @@ def flat(layers):
     return bytes(node for _, rows in layers for row in rows for node in row)
 
 
-def placement(draw, n, r, k, sizes):
-    """An accepted placement with s = r."""
-    layers = list(tight_layers(draw, n, r, sizes))
+def in_service(n, dark):
+    return [node for node in range(n) if node not in dark]
+
+
+def placement(draw, n, r, k, sizes, dark=()):
+    """An accepted placement with s = r, of kind 5 where nodes are out of service, else of kind 3."""
+    layers = list(tight_layers(draw, in_service(n, dark), r, sizes))
     heads = [(bound, len(rows)) for bound, rows in layers]
-    b = sum(sizes)
-    head = [3, n, r, r, k, b, figure(3, r, k, b, heads)] + [v for pair in heads for v in pair]
+    b, kind = sum(sizes), 5 if dark else 3
+    head = [*base_numbers(kind, n, r, dark), r, k, b, figure(kind, r, k, b, heads)] + [v for pair in heads for v in pair]
     data = numbers(*head) + flat(layers)
     assert check_reply(data).startswith(b"accepted")
     return data
 
 
-def pack(layers, n, r):
-    head = [1, n, r] + [v for bound, rows in layers for v in (bound, len(rows))]
+def pack(layers, n, r, dark=()):
+    head = base_numbers(4 if dark else 1, n, r, dark) + [v for bound, rows in layers for v in (bound, len(rows))]
     data = numbers(*head) + flat(layers)
     check_pack(data)
     return data
@@ -97,13 +103,22 @@ def plan_inputs(draw):
     # s = r = 5. At k = 6 a copy of seven blocks costs less than seven records in every layer, so every layer's loss has steps
     # that the planner must weigh; at k = 254 no copy is of use.
     packs = {m: pack([(1, apart(m, 5))] * 5, NODES, 5) for m in (1, 2, 7)}
-    packs[819] = pack(list(tight_layers(draw, NODES, 5, [819] * 5)), NODES, 5)
-    packs[4096] = pack(list(tight_layers(draw, NODES, 5, [0, 0, MOST, 0, 0])), NODES, 5)
+    packs[819] = pack(list(tight_layers(draw, range(NODES), 5, [819] * 5)), NODES, 5)
+    packs[4096] = pack(list(tight_layers(draw, range(NODES), 5, [0, 0, MOST, 0, 0])), NODES, 5)
     for m, data in packs.items():
         for k in (5, 6, 20, 254):
             yield f"plan-m{m}-k{k}", order(5, k, MOST) + data
     for b in SIZES:
         yield f"plan-b{b}", order(5, 6, b) + packs[7]
+
+
+def dark_inputs(draw):
+    """The same with some and with most of the 255 nodes out of service."""
+    for size in 20, 243:
+        dark = sorted(draw.sample(range(NODES), size))
+        yield f"check-dark{size}", placement(draw, NODES, 5, 8, even_sizes(MOST, 5), dark)
+        layers = list(tight_layers(draw, in_service(NODES, dark), 5, [819] * 5))
+        yield f"plan-dark{size}", order(5, 6, MOST) + pack(layers, NODES, 5, dark)
 
 
 def bounds_for(least, parts):
@@ -121,7 +136,7 @@ def join_inputs(draw):
         for x in range(5):
             sizes = [819 // sum(parts)] * 3
             sizes[2] += (820 if x == 0 else 819) - sum(part * size for part, size in zip(parts, sizes))
-            rows = [random_rows(draw, 85, 5, size) for size in sizes]
+            rows = [random_rows(draw, range(85), 5, size) for size in sizes]
             bounds = bounds_for([least_bound(mine, x) for mine in rows], parts)
             assert all(bound < size for bound, size in zip(bounds, sizes))
             for own, bound, mine in zip(layers, bounds, rows):
@@ -137,6 +152,7 @@ def inputs():
     yield from check_inputs(draw)
     yield from plan_inputs(draw)
     yield from load_inputs(random.Random(32))
+    yield from dark_inputs(random.Random(33))
     yield from join_inputs(random.Random(34))
 
 

@@ -2,15 +2,13 @@
 ones. Nothing here depends on the time or the machine.
 """
 import random
+from itertools import islice
 
-from document01 import LARGEST, check_placement, figure, first_crowded, number_bytes, numbers, plan_reply, read_number
+from dark import listed_orders, listed_placements, random_list, row_of_dark
+from document01 import check_placement, figure, first_crowded, pack_bytes, plan_reply
 from limits import largest_orders, largest_placements
-
-ROWS = "012 345 012 034 056 135 146 236 245".split()
-P = bytes([1, 7, 3, 1, 2, 1, 7, 1, 0]) + bytes(int(d) for row in ROWS for d in row)
-NINE = bytes([3, 7, 3, 2, 3, 9, 5, 1, 2, 1, 7]) + bytes(int(d) for row in ROWS for d in row)
-# seven records on P's layer 1 with s 3 and k 4, as kinds 2 and 3 (document 02 (d))
-SEVEN = {kind: bytes([kind, 7, 3, 3, 4, 7, figure, 0, 0, 1, 7, 0, 0]) + P[15:] for kind, figure in ((2, 5), (3, 6))}
+from reading import LARGEST, base_numbers, in_groups, number_bytes, numbers, read_number
+from seven import DARK_P, NINE, NINES, P, P_LISTED, SEVEN
 
 
 def order(s, k, b):
@@ -23,19 +21,22 @@ def least_bound(rows, x, bound=1):
     return bound
 
 
-def random_rows(draw, n, r, most):
-    return [tuple(sorted(draw.sample(range(n), r))) for _ in range(draw.randint(0, most))]
+def random_rows(draw, nodes, r, most):
+    return [tuple(sorted(draw.sample(nodes, r))) for _ in range(draw.randint(0, most))] if r <= len(nodes) else []
 
 
 def random_pack(draw, most=6, extra=0):
-    """A pack whose bounds are as small as its rows allow, `extra` more (or less) in some layers."""
+    """A pack of kind 1 or 4 whose bounds are as small as its rows allow, `extra` more (or less) in some layers."""
     n = draw.choice([2, 3, 4, 5, 6, 7, 8, 9, 12, 20, 254, 255])
     r = draw.randint(2, min(5, n))
-    layers = [random_rows(draw, n, r, draw.choice([0, 0, 1, most])) for _ in range(r)]
-    head = []
-    for x, rows in enumerate(layers):
-        head += [max(1, least_bound(rows, x) + draw.choice([0, extra])), len(rows)]
-    return n, r, numbers(1, n, r, *head) + bytes(v for rows in layers for row in rows for v in row)
+    kind = draw.choice([1, 4])
+    dark = random_list(draw, n, r) if kind == 4 else []
+    nodes = [node for node in range(n) if node not in dark]
+    layers = []
+    for x in range(r):
+        rows = random_rows(draw, nodes, r, draw.choice([0, 0, 1, most]))
+        layers.append((max(1, least_bound(rows, x) + draw.choice([0, extra])), rows))
+    return n, r, pack_bytes({"kind": kind, "n": n, "r": r, "dark": dark, "layers": layers})
 
 
 def random_order(draw, n, r, most=12):
@@ -70,10 +71,11 @@ def renumbered(data, index, change):
     return data[:start] + number_bytes(max(0, value + change)) + data[at:]
 
 
-def in_groups(v, size):
-    """The number in so many groups, or in as many as it needs."""
-    size = max(size, len(number_bytes(v)))
-    return bytes(v // 128 ** i % 128 + (128 if i < size - 1 else 0) for i in range(size))
+def other_figure(draw, data):
+    """The same placement with its figure or a layer's bound one more or less."""
+    p = check_placement(data)
+    first = len(base_numbers(p["kind"], p["n"], p["r"], p["dark"])) + 3
+    return renumbered(data, draw.choice([first, first + 1 + 2 * draw.randrange(p["s"])]), draw.choice([-1, 1]))
 
 
 def padded(data, count):
@@ -95,13 +97,13 @@ def of_kind(kind, data):
     heads = [(bound, len(rows)) for bound, rows in p["layers"]]
     f = figure(kind, p["s"], p["k"], p["b"], heads)
     flat = [v for head in heads for v in head]
-    return numbers(kind, p["n"], p["r"], p["s"], p["k"], p["b"], f, *flat) + data[p["at"]:]
+    return numbers(*base_numbers(kind, p["n"], p["r"], p["dark"]), p["s"], p["k"], p["b"], f, *flat) + data[p["at"]:]
 
 
 def first_numbers():
-    """Every first number up to 7, and larger ones, before the rest of a placement and of a pack."""
-    for first in (*range(8), 127, 128, 130, 131, LARGEST):
-        for data in (NINE, SEVEN[2], P):
+    """Every first number up to 7, and larger ones, before the rest of placements and of packs, with a list and without."""
+    for first in (*range(8), 127, 128, 130, 131, 132, 133, LARGEST):
+        for data in (NINE, NINES[3], SEVEN[2], P, DARK_P):
             yield number_bytes(first) + data[1:]
 
 
@@ -111,7 +113,7 @@ def edge_placements(kind):
         heads = [(0, 0), (1, b)] if heads is None else heads
         figure = b - min(b, 3) if figure is None else figure
         flat = [v for head in heads for v in head]
-        return numbers(kind, n, r, s, k, b, figure, *flat) + bytes(row) * b + tail
+        return numbers(*base_numbers(kind, n, r, []), s, k, b, figure, *flat) + bytes(row) * b + tail
     yield from (b"", numbers(kind), numbers(1, 7, 3), bytes([128, 0]), bytes([128] * 4), bytes([255] * 3))
     for n in (0, 1, 2, 3, 254, 255, 256, 16_383, 16_384, LARGEST):
         yield file(n=n)
@@ -158,28 +160,31 @@ def check_inputs():
         for step in (1, 127, 128, 255):
             yield NINE[:at] + bytes([(NINE[at] + step) % 256]) + NINE[at + 1:]
     yield from first_numbers()
-    for kind in (3, 2):
+    for kind in (5, 3, 2):
+        yield NINES[kind]
         yield SEVEN[kind]
-        yield SEVEN[kind][:6] + SEVEN[5 - kind][6:]
+        yield SEVEN[kind][:-28] + bytes([11 - SEVEN[kind][-28]]) + SEVEN[kind][-27:]
         yield from edge_placements(kind)
-        yield from largest_placements(kind)
+        yield from islice(largest_placements(kind), 3 if kind == 3 else None)
     yield from half_means()
+    yield from listed_placements()
     made = 0
-    while made < 360:
+    while made < 250:
         n, r, pack = random_pack(draw, extra=1)
         reply = plan_reply(order(*random_order(draw, n, r)) + pack)
         if reply.startswith(b"refused"):
             continue
         made += 1
         yield reply
-        old = of_kind(2, reply)
-        yield old
-        yield numbers(2) + reply[1:]
-        yield numbers(3) + old[1:]
+        two, three = of_kind(2, reply), of_kind(3, reply)
+        yield two
+        yield numbers(2) + three[1:]
+        yield numbers(3) + two[1:]
         for _ in range(2):
             yield damaged(draw, reply)
-        s = check_placement(reply)["s"]
-        yield renumbered(reply, draw.choice([6, 7 + 2 * draw.randrange(s)]), draw.choice([-1, 1]))
+        yield other_figure(draw, reply)
+        if check_placement(reply)["dark"]:
+            yield row_of_dark(draw, reply)
 
 
 def edge_plans():
@@ -202,8 +207,9 @@ def edge_plans():
         yield order(2, 2, 300) + numbers(1, 3, 2, 4_096, m, 4_096, 1) + bytes([0, 2]) * (m + 1)
     for n in (1, 2, 254, 255, 256):
         yield order(1, 1, 3) + numbers(1, n, 2, 1, 1, 1, 0) + bytes([0, 1])
-    for at in range(len(P) + 1):
-        yield order(2, 3, 9) + P[:at]
+    for data in (P, P_LISTED, DARK_P):
+        for at in range(len(data) + 1):
+            yield order(2, 3, 9) + data[:at]
 
 
 def plan_inputs():
@@ -213,6 +219,7 @@ def plan_inputs():
         yield order(s, k, b) + P
     yield from edge_plans()
     yield from largest_orders()
+    yield from listed_orders()
     for _ in range(450):
         n, r, pack = random_pack(draw, most=draw.choice([6, 20]), extra=draw.choice([2, 2, -1]))
         s, k, b = random_order(draw, n, r, 40)

@@ -1,36 +1,32 @@
-"""Document 02, request (e): estates made of chunks. One, two or three packs joined into one.
+"""Document 02, request (e): estates made of chunks. One, two or three packs joined into one; with request (h), by which the
+joined pack is of kind 4.
 
 Written from the documents alone. Standard library only.
 """
 from math import lcm
 
-from document01 import Refused, check_pack, numbers, read_number
+from document01 import check_pack, pack_bytes
+from reading import Refused, numbers, read_number
+
+JOINED = 4
 
 
 def joined(packs):
-    """The joined pack of packs that have one r: n, r, and mu and rows of each layer."""
-    r = packs[0]["r"]
-    layers = []
+    """The joined pack of packs that have one r: n, r, the nodes out of service, and mu and rows of each layer."""
+    r, layers = packs[0]["r"], []
+    starts = [sum(p["n"] for p in packs[:i]) for i in range(len(packs))]
     for x in range(r):
         used = [p["layers"][x] for p in packs if p["layers"][x][1]]
         mu = lcm(*(own for own, _ in used)) if used else 1
-        rows, before = [], 0
-        for p in packs:
+        rows = []
+        for start, p in zip(starts, packs):
             own, blocks = p["layers"][x]
             if blocks:
-                shifted = [tuple(before + node for node in row) for row in blocks]
+                shifted = [tuple(start + node for node in row) for row in blocks]
                 rows += shifted * (mu // own)
-            before += p["n"]
         layers.append((mu, rows))
-    return {"n": sum(p["n"] for p in packs), "r": r, "layers": layers}
-
-
-def pack_bytes(pack):
-    """A pack as a file, each number in its shortest form."""
-    head = [1, pack["n"], pack["r"]]
-    for mu, rows in pack["layers"]:
-        head += [mu, len(rows)]
-    return numbers(*head) + bytes(node for _, rows in pack["layers"] for row in rows for node in row)
+    dark = [start + node for start, p in zip(starts, packs) for node in p["dark"]]
+    return {"kind": JOINED, "n": sum(p["n"] for p in packs), "r": r, "dark": dark, "layers": layers}
 
 
 def too_large(packs):

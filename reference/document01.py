@@ -1,5 +1,5 @@
 """Document 01 in its simplest form: packs, placements, planning, the row walk and the two programs' replies; with document
-02's requests (a), (b) and (d).
+02's requests (a), (b), (c), (d) and (h).
 
 Written from the documents alone, with brute force where it can. Standard library only.
 """
@@ -10,65 +10,7 @@ from itertools import combinations, product
 from math import comb
 from operator import add
 
-LARGEST = 268_435_455
-
-
-class Refused(Exception):
-    def __init__(self, number, place):
-        super().__init__(f"refused {number} {place}")
-        self.number = number
-        self.place = place
-
-
-# --- numbers
-
-def number_bytes(v):
-    out = []
-    while v >= 128:
-        out.append(128 + v % 128)
-        v //= 128
-    out.append(v)
-    return bytes(out)
-
-
-def numbers(*values):
-    return b"".join(number_bytes(v) for v in values)
-
-
-def read_number(data, at):
-    value = 0
-    for group in range(4):
-        if at + group >= len(data):
-            raise Refused(1, len(data))
-        byte = data[at + group]
-        value += (byte % 128) * 128 ** group
-        if byte < 128:
-            return value, at + group + 1  # document 02 (b): a zero last group too
-    raise Refused(2, at)
-
-
-def write_number(out, v):
-    if v > LARGEST:
-        raise Refused(4, 0)
-    form = number_bytes(v)
-    if len(form) > len(out):
-        raise Refused(11, len(form))
-    out[:len(form)] = form
-    return len(form)
-
-
-def read_within(data, at, lo, hi):
-    value, after = read_number(data, at)
-    if not lo <= value <= hi:
-        raise Refused(4, at)
-    return value, after
-
-
-def read_kind(data, kinds):
-    value, after = read_number(data, 0)
-    if value not in kinds:
-        raise Refused(3, 0)
-    return value, after
+from reading import LARGEST, LISTED, Refused, base_numbers, number_bytes, numbers, read_base, read_number, read_within, write_number  # noqa: F401
 
 
 # --- rows
@@ -91,8 +33,8 @@ def first_crowded(rows, x, bound):
     return None
 
 
-def check_rows(data, at, n, r, heads):
-    """heads: (bound, size) of each layer. The layers' rows, from `at` on."""
+def check_rows(data, at, n, r, dark, heads):
+    """heads: (bound, size) of each layer. The layers' rows, from `at` on, which name no node of `dark`."""
     size = sum(c for _, c in heads)
     end = at + size * r
     if len(data) < end:
@@ -103,6 +45,9 @@ def check_rows(data, at, n, r, heads):
     for i, row in enumerate(rows):
         if not good_row(row, n):
             raise Refused(6, at + i * r)
+    for i, row in enumerate(rows):
+        if not set(row).isdisjoint(dark):
+            raise Refused(15, at + i * r)
     layers, done = [], 0
     for bound, c in heads:
         layers.append((bound, rows[done:done + c]))
@@ -118,17 +63,26 @@ def check_rows(data, at, n, r, heads):
 
 # --- packs
 
+PACKS = (1, 4)
+
+
 def check_pack(data):
-    _, at = read_kind(data, [1])
-    n, at = read_within(data, at, 2, 255)
-    r, at = read_within(data, at, 2, min(5, n))
+    kind, n, r, dark, at = read_base(data, PACKS)
     heads, so_far = [], 0
     for _ in range(r):
         mu, at = read_within(data, at, 1, 4096)
         m, at = read_within(data, at, 0, 4096 - so_far)
         so_far += m
         heads.append((mu, m))
-    return {"n": n, "r": r, "at": at, "layers": check_rows(data, at, n, r, heads)}
+    return {"kind": kind, "n": n, "r": r, "dark": dark, "at": at, "layers": check_rows(data, at, n, r, dark, heads)}
+
+
+def pack_bytes(pack):
+    """A pack as a file, each number in its shortest form."""
+    head = base_numbers(pack["kind"], pack["n"], pack["r"], pack["dark"])
+    for mu, rows in pack["layers"]:
+        head += [mu, len(rows)]
+    return numbers(*head) + bytes(node for _, rows in pack["layers"] for row in rows for node in row)
 
 
 # --- placements
@@ -147,8 +101,8 @@ def nested_floors(s, k, x, bound):
 
 
 # the rule of loss of each kind of placement, and the kind that the planner writes
-RULES = {2: one_floor, 3: nested_floors}
-PLANNED = 3
+RULES = {2: one_floor, 3: nested_floors, 5: nested_floors}
+PLANNED = 5
 
 
 def loss(kind, s, k, x, bound, c):
@@ -160,9 +114,7 @@ def figure(kind, s, k, b, heads):
 
 
 def check_placement(data):
-    kind, at = read_kind(data, RULES)
-    n, at = read_within(data, at, 2, 255)
-    r, at = read_within(data, at, 2, min(5, n))
+    kind, n, r, dark, at = read_base(data, RULES)
     s, at = read_within(data, at, 1, r)
     k, at = read_within(data, at, s, n - 1)
     b, at = read_within(data, at, 1, 4096)
@@ -174,10 +126,10 @@ def check_placement(data):
         c, at = read_within(data, at, left if x == s - 1 else 0, left)
         left -= c
         heads.append((bound, c))
-    layers = check_rows(data, at, n, r, heads)
+    layers = check_rows(data, at, n, r, dark, heads)
     if f != figure(kind, s, k, b, heads):
         raise Refused(8, figure_at)
-    return {"kind": kind, "n": n, "r": r, "s": s, "k": k, "b": b, "F": f, "at": at, "layers": layers}
+    return {"kind": kind, "n": n, "r": r, "dark": dark, "s": s, "k": k, "b": b, "F": f, "at": at, "layers": layers}
 
 
 def usable(rows, s, failed):
@@ -202,6 +154,10 @@ def curve(data, output=None):
 
 
 # --- planning
+
+# what the output must have beside b × r bytes (document 02 (h))
+ROOM = 448
+
 
 def least_copies(c, m):
     return -(-c // m) if c else 0
@@ -258,8 +214,8 @@ def plan(data, s, k, b, work=None, output=None):
         raise Refused(9, 0)
     if work is not None and work < s * (b + 1):
         raise Refused(10, s * (b + 1))
-    if output is not None and output < 64 + b * r:
-        raise Refused(11, 64 + b * r)
+    if output is not None and output < ROOM + b * r:
+        raise Refused(11, ROOM + b * r)
     return planned(data, s, k, b)
 
 
@@ -271,7 +227,7 @@ def planned(data, s, k, b):
     counts = named_split(layers, s, k, b)
     heads = [(least_copies(c, len(layers[x][1])) * layers[x][0], c) for x, c in enumerate(counts)]
     f = figure(PLANNED, s, k, b, heads)
-    out = numbers(PLANNED, n, r, s, k, b, f, *(v for head in heads for v in head))
+    out = numbers(*base_numbers(PLANNED, n, r, pack["dark"]), s, k, b, f, *(v for head in heads for v in head))
     for x, c in enumerate(counts):
         blocks = layers[x][1]
         out += b"".join(bytes(blocks[j % len(blocks)]) for j in range(c))

@@ -1,12 +1,15 @@
 """The largest files that document 01 takes, and the same refused at their end: 4,096 rows of five of 255 nodes.
 
 Row j of layer x has the values at 0 to 4 of a polynomial, whose coefficients are the lowest x+1 digits of j to the base 47.
-Each value has its own nodes, and x+1 values give the polynomial, so x+1 nodes stand together only in equal rows.
+Each value has its own nodes, and x+1 values give the polynomial, so x+1 nodes stand together only in equal rows. The twenty nodes
+that no row names are out of service in packs of kind 4 and placements of kind 5.
 """
-from document01 import figure, numbers
+from document01 import figure
+from reading import base_numbers, numbers
 
 NODES, ROW, MOST, LARGEST_BOUND, BUFFER = 255, 5, 4_096, 16_777_216, 32_768
 PRIME = 47
+IDLE = [52 * v + i for v in range(4) for i in range(PRIME, 52)]
 EVERY_LAYER = [820, 819, 819, 819, 819]
 
 
@@ -37,12 +40,19 @@ def placement(kind, k, sizes, bounds=None, more=0):
     bounds = bounds or least_bounds(sizes)
     b = sum(sizes)
     f = figure(kind, ROW, k, b, list(zip(bounds, sizes))) + more
-    return numbers(kind, NODES, ROW, ROW, k, b, f, *heads(bounds, sizes)) + rows(sizes)
+    return numbers(*base_numbers(kind, NODES, ROW, IDLE), ROW, k, b, f, *heads(bounds, sizes)) + rows(sizes)
 
 
-def pack(sizes, bounds=None):
+def pack(sizes, bounds=None, kind=1):
     bounds = bounds or [max(1, bound) for bound in least_bounds(sizes)]
-    return numbers(1, NODES, ROW, *heads(bounds, sizes)) + rows(sizes)
+    return numbers(*base_numbers(kind, NODES, ROW, IDLE), *heads(bounds, sizes)) + rows(sizes)
+
+
+def one_row(kind=4, more=()):
+    """250 nodes out of service, and 4,096 rows of the last five; `more` is put into the last row."""
+    last = bytes(range(NODES - ROW, NODES))
+    head = numbers(*base_numbers(kind, NODES, ROW, range(NODES - ROW)), *heads([MOST] * ROW, alone(0)))
+    return head + last * (MOST - 1) + bytes(sorted(more)) + last[len(more):]
 
 
 def twins(data):
@@ -82,6 +92,9 @@ def largest_orders():
     for k in (6, 100, 254):
         yield numbers(ROW, k, MOST) + every
     order = numbers(ROW, 6, MOST)
+    yield order + pack(EVERY_LAYER, kind=4)
+    yield order + one_row()
+    yield order + one_row(more=[249])
     for data in refused_at_the_end(every):
         yield order + data
     yield order + pack(alone(1))

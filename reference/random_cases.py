@@ -2,8 +2,9 @@
 
     python3 reference/random_cases.py [COUNT [SEED]]
 
-COUNT cases in all (2,000 where none is said): orders on random packs for `plan`, some damaged, and the placements they give for
-`check`, some damaged. The seed is fresh at each run and printed first, so that a run can be repeated. The programs are those
+COUNT cases in all (2,000 where none is said): orders on random packs of kinds 1 and 4 for `plan`, with lists of all sizes, some
+damaged, and the placements they give for `check`, as kinds 5, 3 and 2, some damaged or with a row that names a node out of service.
+The seed is fresh at each run and printed first, so that a run can be repeated. The programs are those
 that `rt check` builds, target/bin/check_main and target/bin/plan_main.
 """
 import random
@@ -11,7 +12,9 @@ import secrets
 import sys
 from pathlib import Path
 
-from cases import damaged, of_kind, order, random_order, random_pack, renumbered
+from cases import damaged, of_kind, order, other_figure, random_order, random_pack
+from dark import row_of_dark
+from document01 import check_placement
 from programs import Programs
 
 BUILT = Path(__file__).resolve().parent.parent / "target" / "bin"
@@ -24,12 +27,17 @@ def run_some(programs, draw):
     data = order(s, k, b) + pack
     placement = programs.run("plan", data)
     programs.run("plan", damaged(draw, data))
-    if not placement.startswith(b"refused"):
-        programs.run("check", placement)
-        programs.run("check", of_kind(2, placement))
-        programs.run("check", damaged(draw, placement))
-        programs.run("check", damaged(draw, placement))
-        programs.run("check", renumbered(placement, draw.choice([6, 7 + 2 * draw.randrange(s)]), draw.choice([-1, 1])))
+    if placement.startswith(b"refused"):
+        return
+    programs.run("check", placement)
+    for kind in (3, 2):
+        programs.run("check", of_kind(kind, placement))
+    programs.run("check", damaged(draw, placement))
+    programs.run("check", damaged(draw, placement))
+    programs.run("check", other_figure(draw, placement))
+    if check_placement(placement)["dark"]:
+        programs.run("check", row_of_dark(draw, placement))
+        programs.run("plan", order(s, k, b) + row_of_dark(draw, pack))
 
 
 def main(count=2_000, seed=None):

@@ -9,10 +9,10 @@ sys.path.insert(0, str(Path(__file__).resolve().parent))
 sys.path.insert(0, str(Path(__file__).resolve().parent.parent / "packings"))
 
 from cases import random_pack
-from chunks import join, join_reply, joined, pack_bytes, three_packs
+from chunks import join, join_reply, joined, three_packs
 from constructions import GF2, GF3, affine, bose, projective_plane
-from document01 import Refused, check_pack, check_placement, plan, together, worst_case
-
+from document01 import Refused, check_pack, check_placement, pack_bytes, plan, together, worst_case
+from seven import DARK_P
 
 PROGRAM = Path(__file__).resolve().parent.parent / "crates" / "join_bench"
 
@@ -25,10 +25,10 @@ def refusal(call, *args):
     return None
 
 
-def pack(n, r, layers):
-    """layers: (mu, rows) of the first layers; the others are empty."""
+def pack(n, r, layers, dark=None):
+    """layers: (mu, rows) of the first layers; the others are empty. Of kind 4 where there is a list."""
     layers = list(layers) + [(1, [])] * (r - len(layers))
-    return pack_bytes({"n": n, "r": r, "layers": layers})
+    return pack_bytes({"kind": 1 if dark is None else 4, "n": n, "r": r, "dark": dark or [], "layers": layers})
 
 
 def loose(n, mu, m):
@@ -41,7 +41,24 @@ class Joins(unittest.TestCase):
         a = pack(2, 2, [(2, [(0, 1)]), (3, [(0, 1)])])
         b = pack(3, 2, [(3, [(0, 1), (1, 2)])])
         rows0 = [0, 1] * 3 + [2, 3, 3, 4] * 2
-        self.assertEqual(join([a, b]), bytes([1, 5, 2, 6, 7, 3, 1] + rows0 + [0, 1]))
+        self.assertEqual(join([a, b]), bytes([4, 5, 2, 0, 6, 7, 3, 1] + rows0 + [0, 1]))
+
+    def test_lists(self):
+        """Document 02 (h): "shifts and joins the lists and gives kind 4", for packs of any kind."""
+        three = [pack(3, 2, [(1, [(0, 1)])], [2]), pack(2, 2, []), pack(4, 2, [(1, [(1, 2)])], [0, 3])]
+        self.assertEqual(join(three), bytes([4, 9, 2, 3, 2, 5, 8, 1, 2, 1, 0, 0, 1, 6, 7]))
+        self.assertEqual(join([DARK_P]), DARK_P)
+        all_dark = pack(127, 2, [], list(range(127)))
+        whole = join([all_dark, pack(128, 2, [], list(range(128)))])
+        self.assertEqual(check_pack(whole)["dark"], list(range(255)))
+        self.assertEqual(len(whole), 4 + 2 + 128 + 2 * 127 + 4)
+        self.assertEqual(refusal(join, [all_dark, all_dark, all_dark]), (13, 0))
+        self.assertEqual(refusal(join, [all_dark], 127 + 7), (11, 127 + 8))
+
+    def test_row_out_of_service(self):
+        good, bad = pack(3, 2, [(1, [(0, 1)])], [2]), pack(3, 2, [(1, [(0, 1)])], [1])
+        self.assertEqual(refusal(join, [good, bad]), (15, len(bad) - 2))
+        self.assertEqual(refusal(join, [bad, pack(3, 3, [])]), (15, len(bad) - 2))
 
     def test_random(self):
         draw = random.Random(21)
@@ -53,10 +70,17 @@ class Joins(unittest.TestCase):
                     files.append(data)
             data = join(files)
             whole = check_pack(data)
+            self.assertEqual(whole["kind"], 4)
+            self.dark_where_it_was([check_pack(f) for f in files], whole)
             self.assertEqual(data, pack_bytes(joined([check_pack(f) for f in files])))
             for x, (mu, rows) in enumerate(whole["layers"]):
                 for nodes in combinations(range(whole["n"]), x + 1):
                     self.assertLessEqual(together(rows, nodes), mu)
+
+    def dark_where_it_was(self, packs, whole):
+        """A joined node is out of service exactly where its pack says so."""
+        nodes = [(p, node) for p in packs for node in range(p["n"])]
+        self.assertEqual([node in p["dark"] for p, node in nodes], [node in whole["dark"] for node in range(whole["n"])])
 
     def test_published(self):
         nine, seven = affine(GF3, 2), bose(9)

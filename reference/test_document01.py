@@ -6,16 +6,12 @@ from pathlib import Path
 
 sys.path.insert(0, str(Path(__file__).resolve().parent))
 
-from document01 import (Refused, check_pack, check_placement, check_reply, comb, figure, first_crowded, named_split,
+from document01 import (Refused, check_pack, check_placement, check_reply, comb, curve, figure, first_crowded, named_split,
                         named_split_by_force, nested_floors, number_bytes, one_floor, plan, plan_reply, read_number, together, walk, worst_case)
-from cases import SEVEN, half_means, of_kind, padded
-from limits import largest_placements
+from cases import half_means, of_kind, padded
+from limits import IDLE, NODES, ROW, largest_orders, largest_placements, one_row
 from operators import grant, plan_operator
-
-ROWS = "012 345 012 034 056 135 146 236 245".split()
-P = bytes([1, 7, 3, 1, 2, 1, 7, 1, 0]) + bytes(int(d) for row in ROWS for d in row)
-NINE = bytes([3, 7, 3, 2, 3, 9, 5, 1, 2, 1, 7]) + bytes(int(d) for row in ROWS for d in row)
-OLD_NINE = bytes([2]) + NINE[1:]
+from seven import DARK, DARK_NINE, DARK_P, NINE, NINES, P, P_LISTED, SEVEN
 
 
 def refusal(call, *args):
@@ -44,10 +40,15 @@ class Examples(unittest.TestCase):
     def test_padding(self):
         for pack in padded(P, 9):
             self.assertEqual(check_pack(pack)["layers"], check_pack(P)["layers"])
-        for placement in padded(NINE, 11):
-            self.assertEqual(check_reply(placement), check_reply(NINE))
+        for nine, head in ((NINES[2], 11), (NINES[3], 11), (NINE, 12), (DARK_NINE, 14)):
+            for placement in padded(nine, head):
+                self.assertEqual(check_reply(placement), check_reply(nine))
+        for pack in padded(DARK_P, 12):
+            self.assertEqual(check_pack(pack)["dark"], list(DARK))
         for data in padded(bytes([2, 3, 9]) + P, 12):
             self.assertEqual(plan_reply(data), NINE)
+        for data in padded(bytes([2, 3, 9]) + DARK_P, 15):
+            self.assertEqual(plan_reply(data), DARK_NINE)
 
     def test_pack(self):
         self.assertEqual(len(P), 36)
@@ -62,33 +63,38 @@ class Examples(unittest.TestCase):
             self.assertEqual(check_placement(out)["F"], f)
             if counts:
                 self.assertEqual(found, counts)
-        self.assertEqual(plan(P, 2, 3, 9)[0], NINE)
-        self.assertEqual(len(NINE), 38)
+        for pack in (P, P_LISTED):
+            self.assertEqual(plan(pack, 2, 3, 9)[0], NINE)
+        self.assertEqual((len(NINE), list(NINE[:5])), (39, [5, 7, 3, 0, 2]))
+        self.assertEqual([len(NINES[kind]) for kind in (2, 3)], [38, 38])
         self.assertEqual(refusal(plan, P, 2, 3, 4097), (12, 2))
         self.assertEqual(check_placement(plan(P, 2, 3, 4096)[0])["b"], 4096)
 
     def test_kinds(self):
         """Document 02 (d): "figure 6 where it had 5"; any other first number is refusal 3."""
         seven = plan(P, 3, 4, 7)[0]
-        self.assertEqual(seven, SEVEN[3])
-        self.assertEqual(check_placement(SEVEN[3])["F"], 6)
-        self.assertEqual(check_placement(SEVEN[2])["F"], 5)
-        self.assertEqual(of_kind(2, seven), SEVEN[2])
+        self.assertEqual(seven, SEVEN[5])
+        self.assertEqual([check_placement(SEVEN[kind])["F"] for kind in (5, 3, 2)], [6, 6, 5])
+        for kind in (5, 3, 2):
+            self.assertEqual(of_kind(kind, seven), SEVEN[kind])
         self.assertEqual(refusal(check_placement, bytes([2]) + SEVEN[3][1:]), (8, 6))
         self.assertEqual(refusal(check_placement, bytes([3]) + SEVEN[2][1:]), (8, 6))
-        for first in (0, 1, 4, 5, 6, 127):
+        self.assertEqual(refusal(check_placement, bytes([5, 7, 3, 0]) + SEVEN[2][3:]), (8, 7))
+        for first in (0, 1, 4, 6, 7, 127):
             self.assertEqual(refusal(check_placement, bytes([first]) + NINE[1:]), (3, 0))
-        for first in (0, 2, 3, 4):
+        for first in (0, 2, 3, 5, 6):
             self.assertEqual(refusal(check_pack, bytes([first]) + P[1:]), (3, 0))
 
     def test_programs(self):
-        for nine in (NINE, OLD_NINE):
+        for nine in NINES.values():
             self.assertEqual(check_reply(nine), b"accepted 5 9 3 7 4 4\n")
+        self.assertEqual(check_reply(DARK_NINE), b"accepted 5 9 3 9 4 3\n")
         means = [int(check_reply(placement).split()[-1]) for placement in half_means()]
         self.assertEqual(means, [0, 1, 2, 2, 2, 3, 4, 4, 4, 5, 6, 6, 6, 7, 8, 8])
         self.assertEqual(plan_reply(bytes([2, 3, 9]) + P), NINE)
         self.assertEqual(plan_reply(bytes([2, 128])), b"refused 12 1\n")
         self.assertEqual(plan_reply(bytes([2, 3, 9])), b"refused 1 0\n")
+        self.assertEqual(walk(NINE), walk(NINES[2]))
         self.assertEqual(len(walk(NINE)), 9)
 
 
@@ -96,17 +102,70 @@ class Limits(unittest.TestCase):
     def test_largest_placements(self):
         """Layer 0 loses 18 x k/5; layer 1, of 819 rows, C(k,2)/10 or, in kind 3, 99/4 x 100/5 with a floor each; every later one
         all its 819, but 1 for k = 5."""
-        for kind, lost in ((2, 495), (3, 480)):
-            self.largest_placements(kind, {5: 4096 - 18 - 4, 100: 4096 - 360 - lost - 3 * 819, 254: 0})
+        for kind, lost, listed in ((2, 495, 0), (3, 480, 0), (5, 480, 31)):
+            self.largest_placements(kind, {5: 4096 - 18 - 4, 100: 4096 - 360 - lost - 3 * 819, 254: 0}, listed)
 
-    def largest_placements(self, kind, figures):
-        end = 25 + 5 * 4096
+    def largest_placements(self, kind, figures, listed):
+        """`listed`: the bytes of the list and its count."""
+        end = 25 + listed + 5 * 4096
         expected = [b"accepted %d 4096 %d 255 90 80\n" % (f, k) for k, f in figures.items()]
-        expected += [b"refused %d %d\n" % pair for pair in [(6, end - 5), (6, end - 5), (5, end), (1, end - 1), (8, 8),
+        expected += [b"refused %d %d\n" % pair for pair in [(6, end - 5), (6, end - 5), (5, end), (1, end - 1), (8, 8 + listed),
                                                            (7, end - 10)]]
         files = list(largest_placements(kind))
         self.assertEqual(list(map(check_reply, files[:9])), expected)
         self.assertEqual([len(data) > 32_768 for data in files].count(True), 1)
+
+    def test_largest_lists(self):
+        """The longest list with rows, of 250 nodes, takes 2 + 128 + 2 × 122 bytes; the output needed is that of any list."""
+        self.assertEqual(len(IDLE), 20)
+        pack = one_row()
+        out, f, counts = plan(pack, 5, 6, 4096, 5 * 4097, 448 + 5 * 4096)
+        self.assertEqual((f, counts, check_placement(out)["dark"]), (0, (4096, 0, 0, 0, 0), list(range(NODES - ROW))))
+        self.assertEqual(len(out) - 5 * 4096, (1 + 2 + 1) + (2 + 128 + 2 * 122) + (1 + 1 + 2 + 1) + (2 + 2 + 8))
+        self.assertEqual(refusal(plan, pack, 5, 6, 4096, 5 * 4097, 447 + 5 * 4096), (11, 448 + 5 * 4096))
+        self.assertEqual(refusal(check_pack, one_row(more=[249])), (15, len(pack) - 5))
+        self.assertLess(max(len(data) for data in largest_orders()), 32_770)
+
+
+class OutOfService(unittest.TestCase):
+    """Document 02 (h)."""
+
+    def test_by_hand(self):
+        self.assertEqual(check_pack(DARK_P)["dark"], [3, 8])
+        self.assertEqual(check_pack(P)["dark"], [])
+        self.assertEqual(plan(DARK_P, 2, 3, 9)[0], DARK_NINE)
+        self.assertEqual(curve(DARK_NINE), [7, 5, 1, 0, 0, 0, 0])
+        self.assertEqual(curve(NINE), curve(NINES[3]))
+
+    def test_lists(self):
+        def pack(*middle):
+            return bytes([4, 9, 3, *middle]) + DARK_P[6:]
+        for middle, place in (([10], 3), ([128, 2, 3, 8], 3), ([1, 9], 4), ([2, 3, 3], 5), ([2, 8, 3], 5), ([2, 3, 9], 5), ([3, 3, 8, 0], 6),
+                              ([1, 137, 0], 4), ([2, 131, 0, 3], 6)):
+            self.assertEqual(refusal(check_pack, pack(*middle)), (4, place))
+        for middle in ([0], [1, 3], [1, 8], [2, 3, 8], [130, 128, 0, 131, 0, 8]):
+            self.assertIsNone(refusal(check_pack, pack(*middle)))
+        self.assertEqual(refusal(check_pack, pack(2, 128, 128, 128, 128)), (2, 4))
+        self.assertEqual(refusal(check_pack, pack(9, *range(9))), (15, 3 + 10 + 6))
+        for at in range(3, 6):
+            self.assertEqual(refusal(check_pack, DARK_P[:at]), (1, at))
+        self.assertEqual(refusal(plan, bytes([4, 3, 2, 3, 0, 1, 2, 1, 0, 1, 0]), 1, 1, 1), (9, 0))
+
+    def test_rows(self):
+        """15 at the first row that names one: after 6 in a later row, before 7 in an earlier one and 8."""
+        last, first = len(DARK_P) - 3, len(DARK_P) - 27
+        self.assertEqual(refusal(check_pack, DARK_P[:-1] + bytes([8])), (15, last))
+        self.assertEqual(refusal(check_pack, DARK_P[:first] + bytes([0, 1, 3]) + DARK_P[first + 3:-1] + bytes([8])), (15, first))
+        self.assertEqual(refusal(check_pack, DARK_P[:first] + bytes([0, 1, 3]) + DARK_P[first + 3:-1] + bytes([9])), (6, last))
+        self.assertEqual(refusal(check_pack, DARK_P[:first + 3] + DARK_P[first:first + 3] + DARK_P[first + 6:]), (7, first))
+        self.assertEqual(refusal(check_pack, DARK_P[:first + 3] + DARK_P[first:first + 3] + DARK_P[first + 6:-1] + bytes([8])), (15, last))
+        self.assertEqual(refusal(check_placement, DARK_NINE[:9] + bytes([4]) + DARK_NINE[10:-1] + bytes([8])), (15, len(DARK_NINE) - 3))
+
+    def test_room(self):
+        """447 + b × r is refused for every list, also where the file would fit."""
+        for pack in (P, P_LISTED, DARK_P):
+            self.assertIsNone(refusal(plan, pack, 2, 3, 9, 20, 448 + 27))
+            self.assertEqual(refusal(plan, pack, 2, 3, 9, 20, 447 + 27), (11, 448 + 27))
 
 
 class Operators(unittest.TestCase):
@@ -136,14 +195,16 @@ class Operators(unittest.TestCase):
 
 class BruteForce(unittest.TestCase):
     def packs(self, seed, many):
-        """Random packs whose mu is the largest number of rows with one set together."""
+        """Random packs of kinds 1 and 4 whose mu is the largest number of rows with one set together."""
         draw = random.Random(seed)
         for _ in range(many):
             n = draw.randint(3, 8)
             r = draw.randint(2, min(5, n))
-            head, body = [1, n, r], []
+            dark = sorted(draw.sample(range(n), draw.randint(0, n - r)))
+            head, body = [4, n, r, len(dark), *dark] if dark else [1, n, r], []
+            nodes = [node for node in range(n) if node not in dark]
             for x in range(r):
-                rows = [tuple(sorted(draw.sample(range(n), r))) for _ in range(draw.choice([0, 1, 2, 3, 5]))]
+                rows = [tuple(sorted(draw.sample(nodes, r))) for _ in range(draw.choice([0, 1, 2, 3, 5]))]
                 mu = max([1] + [together(rows, row[:x + 1]) for row in rows])
                 while refusal_of_layer(rows, x, mu):
                     mu += 1
@@ -153,7 +214,7 @@ class BruteForce(unittest.TestCase):
 
     def test_best_split_and_worst_case(self):
         draw = random.Random(31)
-        planned = 0
+        planned = listed = 0
         for data, n, r in self.packs(17, 150):
             s = draw.randint(1, r)
             if s > n - 1:
@@ -168,13 +229,22 @@ class BruteForce(unittest.TestCase):
             self.assertEqual(counts, named_split_by_force(layers, s, k, b))
             self.assertEqual(counts, named_split(layers, s, k, b))
             placement = check_placement(out)
-            self.assertEqual(placement["F"], f)
+            self.assertEqual((placement["F"], placement["dark"]), (f, check_pack(data)["dark"]))
             self.assertGreaterEqual(worst_case(placement), f)
+            self.curve_holds(out)
             old = check_placement(of_kind(2, out))
             self.assertLessEqual(old["F"], f)
             self.assertEqual(worst_case(old), worst_case(placement))
             planned += 1
+            listed += bool(placement["dark"])
         self.assertGreater(planned, 60)
+        self.assertGreater(listed, 30)
+
+    def curve_holds(self, data):
+        """Each figure against the worst choice among all n nodes."""
+        placement = check_placement(data)
+        for more, f in enumerate(curve(data)):
+            self.assertGreaterEqual(worst_case({**placement, "k": placement["s"] + more}), f)
 
     def test_figure_has_one_floor_a_layer(self):
         self.assertEqual(figure(2, 3, 5, 20, [(1, 9), (1, 9), (0, 2)]), 16)

@@ -14,15 +14,18 @@ sys.path.insert(0, str(Path(__file__).resolve().parent.parent / "packings"))
 
 import chunks  # noqa: E402
 import document01 as reference  # noqa: E402
-from cases import NINE, P, SEVEN, check_inputs, in_groups, padded, plan_inputs, random_pack, random_rows  # noqa: E402
+from cases import check_inputs, padded, plan_inputs, random_pack, random_rows  # noqa: E402
 from check_packings import pack_bytes  # noqa: E402
 from constructions import catalogue  # noqa: E402
-from document01 import LARGEST, Refused, numbers  # noqa: E402
+from document01 import ROOM  # noqa: E402
+from limits import one_row  # noqa: E402
 from operators import grant, plan_operator  # noqa: E402
+from reading import LARGEST, Refused, base_numbers, in_groups, numbers  # noqa: E402
+from seven import DARK, DARK_NINE, DARK_P, NINE, NINES, P, P_LISTED, SEVEN  # noqa: E402
 from script import FILLS, LARGEST_64, Script, answer  # noqa: E402
 
 # What the calls behind the programs ask for: room for any line, and what the largest order needs.
-LINE_ROOM, WORK_MOST, OUTPUT_MOST = 200, 5 * 4_097, 64 + 4_096 * 5
+LINE_ROOM, WORK_MOST, OUTPUT_MOST = 200, 5 * 4_097, ROOM + 4_096 * 5
 
 
 # --- one call each
@@ -31,22 +34,34 @@ def layer_numbers(layers):
     return [v for bound, rows in layers for v in (bound, len(rows))]
 
 
-def pack_values(data):
-    pack = reference.check_pack(data)
+def pack_values(pack):
     return [0, pack["n"], pack["r"], 0, 0, 0, 0, pack["at"]] + layer_numbers(pack["layers"])
 
 
-def placement_values(data):
-    placement = reference.check_placement(data)
+def placement_values(placement):
     return [placement[name] for name in ("kind", "n", "r", "s", "k", "b", "F", "at")] + layer_numbers(placement["layers"])
 
 
+def call_checker(script, name, check, values):
+    """Where nodes are out of service, or a row names one, the answer's list is compared too, as a count and so many bytes; it is
+    empty beside a refusal."""
+    try:
+        file = check(script.input)
+        given, dark = [0, *values(file)], file["dark"]
+    except Refused as e:
+        given, dark = [e.number, e.place], []
+    if dark or given[0] == 15:
+        script.call(name, [], given, room=len(dark) + 3, written=bytes([len(dark), *dark]))
+    else:
+        script.call(name, [], given)
+
+
 def call_check_pack(script):
-    script.call("check_pack", [], answer(pack_values, script.input))
+    call_checker(script, "check_pack", reference.check_pack, pack_values)
 
 
 def call_check_placement(script):
-    script.call("check_placement", [], answer(placement_values, script.input))
+    call_checker(script, "check_placement", reference.check_placement, placement_values)
 
 
 def call_read(script, at):
@@ -185,16 +200,21 @@ def number_vectors(script):
 
 
 def small_files(script):
-    """Document 01's pack and placement, and a placement of kind 2: whole, cut short at every length, and with every byte changed to every other value."""
-    for data, call, other in ((P, call_check_pack, call_check_placement), (NINE, call_check_placement, call_check_pack),
-                              (SEVEN[2], call_check_placement, call_check_pack)):
+    """Document 01's pack and placement, the same with a list, and those of the other kinds: whole, cut short at every length, and with
+    every byte changed to every other value, but for those of which a like one has been, where it is changed to fewer."""
+    every, few = range(256), [*range(12), 127, 128, 129, 255]
+    for data, head, rows in ((P, every, every), (NINE, every, every), (DARK_P, every, few), (DARK_NINE, every, few), (SEVEN[2], every, few),
+                             (P_LISTED, few, few), (NINES[3], few, few)):
+        call, other = call_check_placement, call_check_pack
+        if data[0] in reference.PACKS:
+            call, other = other, call
         script.read(data)
         other(script)
         for n in range(len(data) + 1):
             script.part(0, n)
             call(script)
         for at, byte in enumerate(data):
-            for v in range(256):
+            for v in rows if at >= len(data) - 27 else head:
                 if v != byte:
                     script.change(at, v)
                     call(script)
@@ -202,53 +222,82 @@ def small_files(script):
 
 
 def placement_vectors(script):
+    """Every input of the checker, through the calls on a placement."""
     for i, data in enumerate(check_inputs()):
         script.read(data)
         call_check_placement(script)
         call_check_reply(script, LINE_ROOM + i % 3)
         if len(data) < 3_000 or i % 4 == 0:
             call_walk(script, i % 3)
+        curve_edges(script, i)
     for room in (0, 1, LINE_ROOM - 1):
         call_check_reply(script, room)
 
 
+def curve_edges(script, i):
+    """The i-th input's curve with enough entries; of some, with one short, just enough and more, none too."""
+    call_curve(script, 255 + i % 3)
+    if i % 13:
+        return
+    try:
+        entries = len(reference.curve(script.input))
+    except Refused:
+        call_curve(script, 0)
+        return
+    for lent in (entries - 1, entries, entries + 1, 0):
+        call_curve(script, lent)
+
+
 def curve_vectors(script):
-    """Every input of the checker, with enough entries; and outputs that are one short, just long enough and longer, none too."""
-    for i, data in enumerate(check_inputs()):
-        script.read(data)
-        call_curve(script, 255 + i % 3)
-        if i % 7:
-            continue
-        try:
-            entries = len(reference.curve(data))
-        except Refused:
-            call_curve(script, 0)
-            continue
-        for lent in (entries - 1, entries, entries + 1, 0):
-            call_curve(script, lent)
-    for kind, (n, r, s, k) in product((2, 3), ((255, 5, 5, 5), (255, 5, 5, 254), (255, 5, 1, 254), (255, 2, 2, 128), (6, 5, 5, 5),
-                                              (3, 2, 1, 2), (2, 2, 1, 1))):
+    """The longest and the shortest curves of each kind, their outputs at their edges."""
+    for kind, (n, r, s, k) in product((2, 3, 5), ((255, 5, 5, 5), (255, 5, 5, 254), (255, 5, 1, 254), (255, 2, 2, 128), (6, 5, 5, 5),
+                                                 (3, 2, 1, 2), (2, 2, 1, 1))):
         rows = [tuple(range(r)), tuple(range(n - r, n))] * 20
         heads = [(2, 0)] * (s - 1) + [(40, len(rows))]
         f = reference.figure(kind, s, k, len(rows), heads)
-        head = numbers(kind, n, r, s, k, len(rows), f, *(v for bound in heads for v in bound))
+        dark = list(range(r, n - r))
+        head = numbers(*base_numbers(kind, n, r, dark), s, k, len(rows), f, *(v for bound in heads for v in bound))
         script.read(head + bytes(v for row in rows for v in row))
         for lent in (n - s - 1, n - s, n - s + 2):
             call_curve(script, lent)
 
 
-def pair_pack(n, mu, m, layer=0):
-    """A pack of r = 2 with m rows 0 1 in one layer."""
-    heads = [(1, 0), (1, 0)]
-    heads[layer] = (mu, m)
-    return numbers(1, n, 2, *(v for head in heads for v in head)) + bytes([0, 1]) * m
+def pair_pack(n, mu, m, layer=0, dark=None):
+    """A pack of r = 2 with m rows 0 1 in one layer; of kind 4 where there is a list."""
+    layers = [(1, []), (1, [])]
+    layers[layer] = (mu, [(0, 1)] * m)
+    return reference.pack_bytes({"kind": 1 if dark is None else 4, "n": n, "r": 2, "dark": dark or [], "layers": layers})
+
+
+def join_edges(script, files):
+    """Outputs that are just long enough, longer, one short, and none."""
+    size = len(chunks.join(files))
+    for room in (size, size + 3, size - 1, 0):
+        call_join(script, files, room)
+
+
+def joined_lists(script):
+    """Lists on each of the packs and on none, of any kind; nodes 127 and 128 and the last one in a joined list, all nodes, 255 of them."""
+    three = [P, P_LISTED, DARK_P]
+    for count in (1, 2, 3):
+        for files in product(three, repeat=count):
+            join_edges(script, list(files))
+    for lists in product((None, [], [2], [3, 99], list(range(2, 100))), repeat=2):
+        join_edges(script, [pair_pack(100, 1, 1, dark=dark) for dark in lists])
+    for first in (126, 127, 128):
+        join_edges(script, [pair_pack(first, 1, 0, dark=[0, first - 1]), pair_pack(3, 1, 0, dark=[0, 1, 2]), pair_pack(2, 1, 1, 1)])
+    for sizes in ((255,), (127, 128), (85, 85, 85), (2, 2, 251)):
+        join_edges(script, [pair_pack(n, 1, 0, dark=list(range(n))) for n in sizes])
+        join_edges(script, [pair_pack(n, 2, 2, dark=list(range(2, n))) for n in sizes])
+    for sizes in ((127, 129), (128, 128), (85, 85, 86)):
+        call_join(script, [pair_pack(n, 1, 0, dark=list(range(n))) for n in sizes], OUTPUT_MOST)
 
 
 def join_vectors(script):
     """Random packs of one r or of any, bad ones in every place; the limits on both sides; outputs at their edges."""
     draw = random.Random(52)
     packs = [random_pack(draw) for _ in range(120)] + [(7, 3, P)] * 3
-    bad = [P[:-1], P + b"\0", b"", NINE, P[:27] + bytes([6]) + P[28:], P[:35] + bytes([6])]
+    bad = [P[:-1], P + b"\0", b"", NINE, P[:27] + bytes([6]) + P[28:], P[:35] + bytes([6]), DARK_P[:-1] + bytes([8]), DARK_P[:5] + DARK_P[4:]]
     for i in range(240):
         r = draw.choice([2, 3, 4, 5])
         alike = [data for _, own, data in packs if own == r] or [P]
@@ -263,8 +312,7 @@ def join_vectors(script):
             call_join(script, files, draw.choice([0, 64, OUTPUT_MOST]))
             continue
         if size < OUTPUT_MOST:
-            for room in (size, size + 3, size - 1, 0):
-                call_join(script, files, room)
+            join_edges(script, files)
     for first in bad:
         for second in bad:
             call_join(script, [first, second], 100)
@@ -278,11 +326,12 @@ def join_vectors(script):
                   [pair_pack(2, 4_095, 1), pair_pack(2, 4_093, 1), pair_pack(2, 4_091, 1)], [pair_pack(85, 6, 4), pair_pack(85, 10, 9), pair_pack(85, 15, 8)],
                   [pair_pack(85, 6, 4), pair_pack(86, 10, 9), pair_pack(85, 15, 8)], [P, P, P], [P, P], [P]):
         call_join(script, files, OUTPUT_MOST)
+    joined_lists(script)
 
 
 def plan_edges(script, s, k, b, r):
     """Lent slices that are just long enough, longer, and one short."""
-    work, room = s * (b + 1), 64 + b * r
+    work, room = s * (b + 1), ROOM + b * r
     for less, short in ((1, 0), (0, 1), (1, 1), (work, room)):
         call_plan(script, s, k, b, max(work - less, 0), max(room - short, 0))
     call_plan(script, s, k, b, work + 3, room + 5)
@@ -298,17 +347,23 @@ def plan_vectors(script):
             continue
         script.part(at, len(data))
         call_check_pack(script)
-        call_plan(script, s, k, b, min(s * (b + 1), WORK_MOST), min(64 + b * 5, OUTPUT_MOST))
-        if i % 5 == 0 and b < 100 and not answer(pack_values, script.input)[0]:
-            plan_edges(script, s, k, b, reference.check_pack(script.input)["r"])
+        call_plan(script, s, k, b, min(s * (b + 1), WORK_MOST), min(ROOM + b * 5, OUTPUT_MOST))
+        refused, r = answer(lambda pack: [reference.check_pack(pack)["r"]], script.input)
+        if i % 5 == 0 and b < 100 and not refused:
+            plan_edges(script, s, k, b, r)
     script.read(numbers(2, 3, 9) + P)
     for work, room in ((0, 0), (WORK_MOST - 1, OUTPUT_MOST - 1), (WORK_MOST - 1, OUTPUT_MOST), (WORK_MOST, OUTPUT_MOST - 1)):
         call_plan_reply(script, work, room)
     script.read(P)
     for order in ((LARGEST_64, 3, 9), (2, LARGEST_64, 9), (2, 3, LARGEST_64), (0, 0, 0), (3, 6, 9), (4, 6, 9), (3, 7, 9)):
         call_plan(script, *order, 0, 0)
-    for s, k, b in ((2, 3, 9), (3, 4, 7), (1, 6, 1), (3, 3, 40)):
-        plan_edges(script, s, k, b, 3)
+    for data in (P, P_LISTED, DARK_P):
+        script.read(data)
+        for s, k, b in ((2, 3, 9), (3, 4, 7), (1, 6, 1), (3, 3, 40)):
+            plan_edges(script, s, k, b, 3)
+    script.read(one_row())
+    for room in (OUTPUT_MOST, OUTPUT_MOST - 1, 64 + 5 * 4_096):
+        call_plan(script, 5, 6, 4_096, WORK_MOST, room)
     script.read(NINE)
     call_plan(script, 2, 3, 9, 0, 0)
 
@@ -319,27 +374,28 @@ def operator_vectors(script):
     pairs = sorted(product(edges, edges), key=lambda pair: grant(*pair))
     script.read(P)
     for wish, other in pairs:
-        call_operator(script, 2, 3, wish, other, 2 * 4_097, 64 + 4_096 * 3)
+        call_operator(script, 2, 3, wish, other, 2 * 4_097, ROOM + 4_096 * 3)
     for s, k, wish, other in ((1, 6, 4_096, 4_095), (3, 4, 4_096, 2_300), (3, 6, 9, 4_096), (2, 2, 9, 9)):
-        call_operator(script, s, k, wish, other, s * (grant(wish, other) + 1), 64 + grant(wish, other) * 3)
+        call_operator(script, s, k, wish, other, s * (grant(wish, other) + 1), ROOM + grant(wish, other) * 3)
     outside = (0, 4_097, 2 ** 31, LARGEST_64)
     bad = [(w, 9) for w in outside] + [(9, w) for w in outside] + [(0, 4_097), (4_097, 0), (0, 0)]
-    for data in (P, P[:-1], P + b"\0", NINE, b"", bytes([255] * 4), bytes([1, 1]) + P[2:], P[:-1] + bytes([4]), P[:-1] + bytes([6])):
+    for data in (P, P[:-1], P + b"\0", NINE, b"", bytes([255] * 4), bytes([1, 1]) + P[2:], P[:-1] + bytes([4]), P[:-1] + bytes([6]), DARK_P,
+                 DARK_P[:-1] + bytes([8]), DARK_P[:4] + bytes([8]) + DARK_P[5:]):
         script.read(data)
         for wish, other in bad:
-            call_operator(script, 2, 3, wish, other, 20, 91)
+            call_operator(script, 2, 3, wish, other, 20, ROOM + 27)
         for s, k, wish, other in ((2, 3, 9, 4_096), (2, 3, 4_096, 4_096), (0, 3, 9, 9), (4, 3, 9, 9), (2, 1, 9, 9), (2, 7, 9, 9)):
-            call_operator(script, s, k, wish, other, 20, 91)
+            call_operator(script, s, k, wish, other, 20, ROOM + 27)
     script.read(P)
     for wish, other in ((9, 4_096), (4_096, 4_096), (2_049, 2_048), (4_096, 1), (3_000, 1_500)):
         b = grant(wish, other)
-        work, room = 2 * (b + 1), 64 + b * 3
+        work, room = 2 * (b + 1), ROOM + b * 3
         for less, short in ((1, 0), (0, 1), (1, 1), (work, room), (-3, -5)):
             call_operator(script, 2, 3, wish, other, work - less, room - short)
     script.read(numbers(1, 3, 2, 1, 0, 1, 1) + bytes([0, 1]))
     for s in (1, 2):
-        call_operator(script, s, s, 9, 9, 20, 91)
-    call_operator(script, 1, 1, 0, 9, 20, 91)
+        call_operator(script, s, s, 9, 9, 20, ROOM + 27)
+    call_operator(script, 1, 1, 0, 9, 20, ROOM + 27)
 
 
 def grouped_rows():
@@ -362,7 +418,7 @@ def crowding_vectors(script):
     for _ in range(150):
         n = draw.choice([5, 6, 7, 9, 20, 255, 256])
         r = draw.randint(1, 5)
-        rows = random_rows(draw, n, r, draw.choice([1, 4, 12, 60]))
+        rows = random_rows(draw, range(n), r, draw.choice([1, 4, 12, 60]))
         script.read(bytes(v for row in rows for v in row) + bytes(draw.randint(0, 2)))
         for x in range(r):
             for bound in {0, 1, draw.randint(0, 4)}:
@@ -383,7 +439,7 @@ def published_vectors(script):
         script.read(data)
         call_check_pack(script)
         for s, k, b in published_orders(n, r, x):
-            placements.append(call_plan(script, s, k, b, s * (b + 1), 64 + b * r))
+            placements.append(call_plan(script, s, k, b, s * (b + 1), ROOM + b * r))
         for placement in placements:
             script.read(placement)
             call_check_placement(script)
@@ -391,17 +447,23 @@ def published_vectors(script):
             call_walk(script)
 
 
+def listed_numbers(data):
+    """How many numbers the list is, with its count."""
+    return {P_LISTED[:4]: 1, NINE[:4]: 1, DARK_P[:4]: 1 + len(DARK), DARK_NINE[:4]: 1 + len(DARK)}.get(data[:4], 0)
+
+
 def padded_vectors(script):
     """Every head number padded: packs, placements and orders, good ones and ones that are bad further on."""
-    for data in (P, P[:-1], P + b"\0", P[:27] + bytes([6]) + P[28:], numbers(1, 7, 3, 1, 2, 1, 7, 0, 0) + P[9:]):
-        for pack in padded(data, 9):
+    for data in (P, P[:-1], P + b"\0", P[:27] + bytes([6]) + P[28:], numbers(1, 7, 3, 1, 2, 1, 7, 0, 0) + P[9:], P_LISTED, DARK_P,
+                 DARK_P[:-1] + bytes([8]), DARK_P[:5] + bytes([3]) + DARK_P[6:]):
+        for pack in padded(data, 9 + listed_numbers(data)):
             script.read(pack)
             call_check_pack(script)
-            call_plan(script, 2, 3, 9, 20, 91)
-    wrong = NINE[:6] + bytes([4]) + NINE[7:]
-    for data in (NINE, NINE[:-1], NINE + b"\0", wrong, NINE[:-1] + bytes([6]), numbers(3, 7, 3, 2, 3, 9, 5, 1, 3, 1, 6) + NINE[11:],
-                 SEVEN[2]):
-        for placement in padded(data, 11):
+            call_plan(script, 2, 3, 9, 20, ROOM + 27)
+    wrong = NINE[:7] + bytes([4]) + NINE[8:]
+    for data in (NINE, NINE[:-1], NINE + b"\0", wrong, NINE[:-1] + bytes([6]), numbers(5, 7, 3, 0, 2, 3, 9, 5, 1, 3, 1, 6) + NINE[12:],
+                 SEVEN[2], NINES[3], DARK_NINE, DARK_NINE[:-1] + bytes([8])):
+        for placement in padded(data, 11 + listed_numbers(data)):
             script.read(placement)
             call_check_placement(script)
             call_check_reply(script)
@@ -410,6 +472,9 @@ def padded_vectors(script):
         for data in padded(order + P, 12):
             script.read(data)
             call_plan_reply(script)
+    for data in padded(numbers(2, 3, 9) + DARK_P, 15):
+        script.read(data)
+        call_plan_reply(script)
     for v in (0, 5, 128, 300, 16_384, LARGEST):
         for size in (1, 2, 3, 4):
             script.read(in_groups(v, size) + b"\7")

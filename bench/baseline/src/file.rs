@@ -10,9 +10,34 @@ pub struct Layer {
     pub size: usize,
 }
 
-pub struct Pack<'a> {
+/// What packs and placements begin with.
+pub struct Base {
+    kind: usize,
     pub n: usize,
     pub r: usize,
+    /// The nodes out of service, ascending; kinds 4 and 5 list them.
+    pub dark: Vec<u8>,
+}
+
+impl Base {
+    fn read(head: &mut Reader, kinds: &[usize]) -> Result<Self, Refusal> {
+        let kind = head.kind(kinds)?;
+        let n = head.within(2, 255)?;
+        let r = head.within(2, n.min(5))?;
+        let count = if kind == 4 || kind == 5 { head.within(0, n)? } else { 0 };
+        let mut dark = Vec::with_capacity(count);
+        let mut least = 0;
+        for _ in 0..count {
+            let node = head.within(least, n - 1)?;
+            dark.push(node as u8);
+            least = node + 1;
+        }
+        Ok(Base { kind, n, r, dark })
+    }
+}
+
+pub struct Pack<'a> {
+    pub base: Base,
     pub layers: [Layer; 5],
     pub rows: &'a [u8],
 }
@@ -29,9 +54,8 @@ pub struct Placement {
 impl<'a> Pack<'a> {
     pub fn check<T: PackingTest>(bytes: &'a [u8]) -> Result<Self, Refusal> {
         let mut head = Reader::new(bytes);
-        head.kind(&[1])?;
-        let n = head.within(2, 255)?;
-        let r = head.within(2, n.min(5))?;
+        let base = Base::read(&mut head, &[1, 4])?;
+        let r = base.r;
         let mut layers = [Layer::default(); 5];
         let mut size = 0;
         for layer in &mut layers[..r] {
@@ -40,17 +64,17 @@ impl<'a> Pack<'a> {
             size += layer.size;
         }
         let rows = rows_after(&head, size * r)?;
-        check_rows::<T>(rows, head.at, n, r, &layers[..r])?;
-        Ok(Pack { n, r, layers, rows })
+        check_rows::<T>(rows, head.at, &base, &layers[..r])?;
+        Ok(Pack { base, layers, rows })
     }
 }
 
 impl Placement {
     pub fn check<T: PackingTest>(bytes: &[u8]) -> Result<Self, Refusal> {
         let mut head = Reader::new(bytes);
-        let lost_by = if head.kind(&[2, 3])? == 2 { one_floor } else { nested_floors };
-        let n = head.within(2, 255)?;
-        let r = head.within(2, n.min(5))?;
+        let base = Base::read(&mut head, &[2, 3, 5])?;
+        let lost_by = if base.kind == 2 { one_floor } else { nested_floors };
+        let Base { n, r, .. } = base;
         let s = head.within(1, r)?;
         let k = head.within(s, n - 1)?;
         let b = head.within(1, 4096)?;
@@ -66,7 +90,7 @@ impl Placement {
             lost += layer.size.min(lost_by(s, k, x, layer.bound));
         }
         let rows = rows_after(&head, b * r)?;
-        let most = check_rows::<T>(rows, head.at, n, r, &layers[..s])?;
+        let most = check_rows::<T>(rows, head.at, &base, &layers[..s])?;
         if figure != b - lost {
             return refused(8, figure_at);
         }
@@ -79,7 +103,7 @@ fn one_floor(s: usize, k: usize, x: usize, lambda: usize) -> usize {
     lambda * choose(k, x + 1) / choose(s, x + 1)
 }
 
-/// The same in a placement of kind 3. Below 2^64 for lambda up to 2^24 and k up to 255.
+/// The same in a placement of kind 3 or 5. Below 2^64 for lambda up to 2^24 and k up to 255.
 pub fn nested_floors(s: usize, k: usize, x: usize, lambda: usize) -> usize {
     (0..=x).rev().fold(lambda, |lost, i| lost * (k - i) / (s - i))
 }
@@ -100,22 +124,24 @@ fn rows_after<'a>(head: &Reader<'a>, size: usize) -> Result<&'a [u8], Refusal> {
     Ok(rows)
 }
 
-/// Tests the rows' order and each layer's packing. The largest number of rows that hold one node.
-fn check_rows<T: PackingTest>(rows: &[u8], at: usize, n: usize, r: usize, layers: &[Layer]) -> Result<usize, Refusal> {
-    match r {
-        2 => check_rows_of::<T, 2>(rows, at, n, layers),
-        3 => check_rows_of::<T, 3>(rows, at, n, layers),
-        4 => check_rows_of::<T, 4>(rows, at, n, layers),
-        _ => check_rows_of::<T, 5>(rows, at, n, layers),
+/// Tests the rows' order, that none names a node out of service, and each layer's packing. The largest number of rows that
+/// hold one node.
+fn check_rows<T: PackingTest>(rows: &[u8], at: usize, base: &Base, layers: &[Layer]) -> Result<usize, Refusal> {
+    match base.r {
+        2 => check_rows_of::<T, 2>(rows, at, base, layers),
+        3 => check_rows_of::<T, 3>(rows, at, base, layers),
+        4 => check_rows_of::<T, 4>(rows, at, base, layers),
+        _ => check_rows_of::<T, 5>(rows, at, base, layers),
     }
 }
 
 fn check_rows_of<T: PackingTest, const R: usize>(
     bytes: &[u8],
     at: usize,
-    n: usize,
+    base: &Base,
     layers: &[Layer],
 ) -> Result<usize, Refusal> {
+    let n = base.n;
     let (rows, _) = bytes.as_chunks::<R>();
     let mut loads = [0u16; 256];
     // The loads after layer 0 are that layer's counts of single nodes.
@@ -124,6 +150,9 @@ fn check_rows_of<T: PackingTest, const R: usize>(
     let crowded_node = most(&loads) > layers[0].bound;
     if let Err(i) = in_order.and_then(|()| add_loads(others, n, &mut loads).map_err(|i| single.len() + i)) {
         return refused(6, at + i * R);
+    }
+    if base.dark.iter().any(|&node| loads[usize::from(node)] > 0) {
+        return refused(15, at + first_naming(rows, &base.dark) * R);
     }
     if crowded_node {
         return refused(7, at + first_loaded(single, layers[0].bound) * R);
@@ -162,6 +191,12 @@ fn add_loads<const R: usize>(rows: &[[u8; R]], n: usize, loads: &mut [u16; 256])
         }
     }
     Ok(())
+}
+
+/// The first row with a node of this ascending list; there is one.
+#[cold]
+fn first_naming<const R: usize>(rows: &[[u8; R]], dark: &[u8]) -> usize {
+    rows.iter().position(|row| row.iter().any(|node| dark.binary_search(node).is_ok())).unwrap_or(0)
 }
 
 /// The first row with a node that more than `bound` of these rows hold; there is one.

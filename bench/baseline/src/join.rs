@@ -1,4 +1,4 @@
-//! Three packs joined into one (document 02, request (e)).
+//! Three packs joined into one (document 02, requests (e) and (h)).
 
 use crate::crowding::PackingTest;
 use crate::file::{Layer, Pack};
@@ -17,9 +17,9 @@ pub fn join<T: PackingTest>(input: &[u8]) -> Option<Result<Vec<u8>, Refusal>> {
 
 fn join_three<T: PackingTest>([first, second, third]: [&[u8]; 3]) -> Result<Vec<u8>, Refusal> {
     let packs = [Pack::check::<T>(first)?, Pack::check::<T>(second)?, Pack::check::<T>(third)?];
-    let r = packs[0].r;
-    let n: usize = packs.iter().map(|pack| pack.n).sum();
-    if packs.iter().any(|pack| pack.r != r) || n > 255 {
+    let r = packs[0].base.r;
+    let n: usize = packs.iter().map(|pack| pack.base.n).sum();
+    if packs.iter().any(|pack| pack.base.r != r) || n > 255 {
         return refused(13, 0);
     }
     let mut joined = [Layer::default(); 5];
@@ -33,16 +33,29 @@ fn join_three<T: PackingTest>([first, second, third]: [&[u8]; 3]) -> Result<Vec<
     if rows > 4096 || joined.iter().any(|layer| layer.bound > 4096) {
         return refused(13, 0);
     }
-    let mut out = Vec::with_capacity(64 + rows * r);
-    for v in [1, n, r] {
+    let mut out = Vec::with_capacity(448 + rows * r);
+    for v in [4, n, r] {
         push_number(&mut out, v);
     }
+    write_lists(&packs, &mut out);
     for layer in &joined[..r] {
         push_number(&mut out, layer.bound);
         push_number(&mut out, layer.size);
     }
     write_rows(&packs, &joined[..r], r, &mut out);
     Ok(out)
+}
+
+/// The nodes out of service, each after the nodes of the packs before.
+fn write_lists(packs: &[Pack; 3], out: &mut Vec<u8>) {
+    push_number(out, packs.iter().map(|pack| pack.base.dark.len()).sum());
+    let mut shift = 0;
+    for pack in packs {
+        for &node in &pack.base.dark {
+            push_number(out, shift + usize::from(node));
+        }
+        shift += pack.base.n;
+    }
 }
 
 /// Layer by layer, each pack's blocks as often as its mu goes into the joined one, their nodes after those of the packs before.
@@ -62,7 +75,7 @@ fn write_rows(packs: &[Pack; 3], joined: &[Layer], r: usize, out: &mut Vec<u8>) 
                 }
             }
             // Past the last pack it is not used, and 255 is the most before.
-            shift = shift.wrapping_add(pack.n as u8);
+            shift = shift.wrapping_add(pack.base.n as u8);
         }
     }
 }
@@ -93,7 +106,13 @@ mod tests {
         let three = [1, 3, 2, 3, 2, 9, 0, 0, 1, 1, 2];
         let none = [1, 2, 2, 5, 0, 7, 0];
         let rows = [0, 1, 0, 1, 0, 1, 2, 3, 3, 4, 2, 3, 3, 4, 0, 1];
-        assert_eq!(joined([&two, &three, &none]), Ok([&[1, 7, 2, 6, 7, 3, 1], &rows[..]].concat()));
+        assert_eq!(joined([&two, &three, &none]), Ok([&[4, 7, 2, 0, 6, 7, 3, 1], &rows[..]].concat()));
+    }
+
+    #[test]
+    fn lists_are_shifted_and_joined() {
+        let (first, third) = ([4, 3, 2, 1, 2, 1, 0, 1, 0], [4, 4, 2, 2, 0, 3, 1, 0, 1, 1, 1, 2]);
+        assert_eq!(joined([&first, &[1, 2, 2, 1, 0, 1, 0], &third]), Ok(vec![4, 9, 2, 3, 2, 5, 8, 1, 0, 1, 1, 6, 7]));
     }
 
     #[test]

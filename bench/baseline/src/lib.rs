@@ -1,4 +1,4 @@
-//! Document 01's programs `check` and `plan` in plain Rust: the mark that the proved programs are measured against.
+//! The programs `check` and `plan` of documents 01 and 02 in plain Rust: the mark that the proved programs are measured against.
 
 pub mod crowding;
 pub mod file;
@@ -14,7 +14,7 @@ use std::mem::ManuallyDrop;
 use std::os::fd::FromRawFd;
 
 use crowding::PackingTest;
-use file::{Pack, Placement};
+use file::{Base, Pack, Placement};
 use number::{Reader, Refusal, push_number, refused};
 use split::{Fill, Rule};
 
@@ -80,10 +80,10 @@ fn plan<T: PackingTest>(input: &[u8], fill: Fill) -> Result<Vec<u8>, Refusal> {
     }
     let [s, k, b] = order;
     let pack = Pack::check::<T>(&input[head.at..])?;
-    if !(1..=pack.r).contains(&s) {
+    if !(1..=pack.base.r).contains(&s) {
         return refused(12, 0);
     }
-    if !(s..pack.n).contains(&k) {
+    if !(s..pack.base.n).contains(&k) {
         return refused(12, 1);
     }
     if !(1..=4096).contains(&b) {
@@ -103,9 +103,16 @@ fn plan<T: PackingTest>(input: &[u8], fill: Fill) -> Result<Vec<u8>, Refusal> {
 
 /// The placement of these counts: row j of a layer is its block j mod m.
 fn placement(pack: &Pack, rules: &[Rule], counts: &[usize; 5], [s, k, b]: [usize; 3]) -> Vec<u8> {
+    let Base { n, r, ref dark, .. } = pack.base;
     let lost: usize = rules.iter().zip(counts).map(|(rule, &c)| rule.loss(c)).sum();
-    let mut out = Vec::with_capacity(64 + b * pack.r);
-    for v in [3, pack.n, pack.r, s, k, b, b - lost] {
+    let mut out = Vec::with_capacity(448 + b * r);
+    for v in [5, n, r, dark.len()] {
+        push_number(&mut out, v);
+    }
+    for &node in dark {
+        push_number(&mut out, node.into());
+    }
+    for v in [s, k, b, b - lost] {
         push_number(&mut out, v);
     }
     for (x, rule) in rules.iter().enumerate() {
@@ -114,10 +121,10 @@ fn placement(pack: &Pack, rules: &[Rule], counts: &[usize; 5], [s, k, b]: [usize
     }
     let mut blocks = pack.rows;
     for (layer, &count) in pack.layers[..s].iter().zip(counts) {
-        let (mine, rest) = blocks.split_at(layer.size * pack.r);
+        let (mine, rest) = blocks.split_at(layer.size * r);
         blocks = rest;
         let start = out.len();
-        let end = start + count * pack.r;
+        let end = start + count * r;
         out.extend_from_slice(&mine[..mine.len().min(end - start)]);
         // What is there already is whole copies of the blocks, so it may be repeated.
         while out.len() < end {
@@ -153,21 +160,42 @@ mod tests {
     #[test]
     fn the_nine_records_are_planned_and_accepted() {
         let order = [&[2, 3, 9], &seven_cabinets()[..]].concat();
-        let mut placement = [&[3, 7, 3, 2, 3, 9, 5, 1, 2, 1, 7], &ROWS[..]].concat();
-        assert_eq!(both(&order), placement);
-        for kind in [3, 2] {
-            placement[0] = kind;
-            assert_eq!(both_checks(&placement), b"accepted 5 9 3 7 4 4\n");
+        let tail = [&[2, 3, 9, 5, 1, 2, 1, 7], &ROWS[..]].concat();
+        assert_eq!(both(&order), [&[5, 7, 3, 0], &tail[..]].concat());
+        for head in [&[5, 7, 3, 0][..], &[3, 7, 3], &[2, 7, 3]] {
+            assert_eq!(both_checks(&[head, &tail].concat()), b"accepted 5 9 3 7 4 4\n");
         }
-        placement[0] = 4;
-        assert_eq!(both_checks(&placement), b"refused 3 0\n");
+        assert_eq!(both_checks(&[&[4, 7, 3, 0], &tail[..]].concat()), b"refused 3 0\n");
+    }
+
+    #[test]
+    fn nodes_out_of_service() {
+        // Node 3 is out of service, and the nodes from it on are one further.
+        let rows = ROWS.map(|node| node + u8::from(node >= 3));
+        let order = [&[2, 3, 9, 4, 8, 3, 1, 3, 1, 2, 1, 7, 1, 0], &rows[..]].concat();
+        let placement = [&[5, 8, 3, 1, 3, 2, 3, 9, 5, 1, 2, 1, 7], &rows[..]].concat();
+        assert_eq!(both(&order), placement);
+        assert_eq!(both_checks(&placement), b"accepted 5 9 3 8 4 3\n");
+        for (list, reply) in [
+            (&[0][..], "accepted 5 9 3 8 4 3\n"),
+            (&[2, 2, 3], "refused 15 14\n"),
+            (&[1, 7], "refused 15 25\n"),
+            (&[2, 3, 3], "refused 4 5\n"),
+            (&[2, 3, 2], "refused 4 5\n"),
+            (&[1, 8], "refused 4 4\n"),
+            (&[9], "refused 4 3\n"),
+            (&[1, 131, 128, 0], "accepted 5 9 3 8 4 3\n"),
+        ] {
+            let listed = [&[5, 8, 3], list, &placement[5..]].concat();
+            assert_eq!(both_checks(&listed), reply.as_bytes(), "{list:?}");
+        }
     }
 
     #[test]
     fn figures_of_seven_cabinets() {
         for (s, k, b, figure) in [(2, 2, 7, 6), (2, 3, 7, 4), (2, 3, 9, 5), (2, 2, 9, 7), (3, 4, 7, 6), (3, 4, 10, 7), (2, 2, 1, 0)] {
             let reply = both(&[&[s, k, b], &seven_cabinets()[..]].concat());
-            assert_eq!(reply[6], figure, "s {s}, k {k}, b {b}");
+            assert_eq!(reply[7], figure, "s {s}, k {k}, b {b}");
             assert!(both_checks(&reply).starts_with(b"accepted"));
         }
     }
@@ -198,7 +226,7 @@ mod tests {
     #[test]
     fn the_largest_order_is_planned() {
         let reply = both(&[&[2, 3, 128, 32], &seven_cabinets()[..]].concat());
-        assert_eq!(reply.len(), 15 + 3 * 4096);
+        assert_eq!(reply.len(), 16 + 3 * 4096);
         assert!(both_checks(&reply).starts_with(b"accepted "));
     }
 }

@@ -13,13 +13,14 @@ use Rattle.lists.proofs.Alls.{all-map, all-of-map, all-imp, all-flatten, all-bo
 use Rattle.lists.proofs.UpTo.{length-map-upTo, all-upTo, getD-map-upTo}
 use Rattle.refusal.specs.Checked.{accepted}
 use Rattle.packing.specs.Rows.{Row, Packing}
-use Rattle.layers.specs.Layers.{Layer, BaseLimits, blocksAt, headOf, headsOf, sizes, allRows, Packings}
+use Rattle.layers.specs.Layers.{Layer, BaseLimits, Names, InService, blocksAt, headOf, headsOf, sizes, allRows, Packings}
 use Rattle.layers.proofs.Each.{row-below, layer-rows, packing-at, packings-from}
 use Rattle.pack.specs.Pack.{Pack, GoodPack, bytesOfPack, checkPack}
 use Rattle.pack.proofs.Written.{pack-written-accepted}
-use Rattle.join.specs.Join.{Chunk, jointMu, chunkHeads, jointLayer, chunksAt, firstR, joinedPack, withinLimits, joinable}
+use Rattle.join.specs.Join.{Chunk, jointMu, chunkHeads, jointLayer, chunksAt, jointDark, firstR, joinedPack, withinLimits, joinable}
 use Rattle.join.proofs.Mu.{MuLeast, jointMu-least}
 use Rattle.join.proofs.Layers.{ChunkPacking, joint-packing, joint-rows, nodesOf}
+use Rattle.join.proofs.Listed.{Serves, joint-ordered, joint-service}
 
 -- every number is at most what the largest is at most
 pub all-le-largest : (l : List ℕ) (m : ℕ) → largest l ≤ m → All (λ v. v ≤ m) l
@@ -100,6 +101,27 @@ module _ (packs : List Pack) (good : All GoodPack packs) (joins : Joins packs) w
           joint-rows (jointMu (chunkHeads (chunksAt x packs))) (firstR packs) (joinedPack packs .n) 0 (chunksAt x packs)
           (omega (arith, chunks-nodes x packs)) (chunk-rows x)
 
+  chunk-serves : (x : ℕ) → All (Serves x) packs
+  chunk-serves x = all-imp GoodPack (Serves x) each packs good
+    where
+      each : (p : Pack) → GoodPack p → Serves x p
+      each p g =
+          record {
+            below =
+                all-imp (Row (p .n) (p .r)) _ (row-below (p .n) (p .r)) (blocksAt (p .layers) x .rows)
+                (layer-rows (Row (p .n) (p .r)) (p .layers) x (g .rows));
+            in-service = layer-rows (λ row. Names (p .dark) row → ⊥) (p .layers) x (g .in-service);
+            ordered = g .limits .dark-order;
+          }
+
+  joined-service : InService (joinedPack packs .dark) (allRows (joinedPack packs .layers))
+  unfolding joinedPack
+  joined-service =
+      all-flatten (λ row. Names (jointDark 0 packs) row → ⊥) (map (λ layer. layer .rows) (map (jointAt packs) (upTo (firstR packs))))
+      (rw (map-map (λ layer. layer .rows) (jointAt packs) (upTo (firstR packs)))
+      (all-map _ (λ x. jointAt packs x .rows) (upTo (firstR packs))
+      (all-upTo _ (firstR packs) (λ x lt. joint-service x (jointMu (chunkHeads (chunksAt x packs))) 0 packs (chunk-serves x)))))
+
   joined-packings : Packings 0 (joinedPack packs .layers)
   unfolding joinedPack
   joined-packings = packings-from 0 (map (jointAt packs) (upTo (firstR packs))) each
@@ -140,11 +162,13 @@ joined-good packs some good joins =
       limits =
           record {
             base = joined-base packs some good joins;
+            dark-order = joint-ordered packs (all-imp GoodPack _ (λ p g. g .limits .dark-order) packs good);
             layer-each = length-map-upTo (jointAt packs) (firstR packs);
             mu-limits = joined-mu packs good joins;
             blocks-most = joins .rows-most;
           };
       rows = joined-rows packs good joins;
+      in-service = joined-service packs good joins;
       packings = joined-packings packs good joins;
     }
 

@@ -23,7 +23,7 @@ pub record ChunkPacking (x : ℕ) (chunk : Chunk) : Type 0 where
   pub packing : Packing x (chunk .layer .bound) (chunk .layer .rows)
 
 -- what holds of a row's nodes holds of a node that stands in it
-of-member : (P : ℕ → Type 0) (row : List ℕ) → All P row → (v : ℕ) → T (member v row) → P v
+pub of-member : (P : ℕ → Type 0) (row : List ℕ) → All P row → (v : ℕ) → T (member v row) → P v
 unfolding member
 of-member P [] h v m = absurd m
 of-member P (w ∷ row) h v m = go (member-cases v w row m) (of-member P row (h .1) v)

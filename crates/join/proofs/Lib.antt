@@ -3,7 +3,9 @@ pub mod Lcm
 pub mod Mu
 pub mod Shifted
 pub mod Layers
+pub mod Listed
 pub mod Bytes
+pub mod Adding
 pub mod Laying
 pub mod Search
 pub mod Exact
@@ -12,4 +14,5 @@ pub mod Good
 pub mod Writing
 pub mod Pieces
 pub mod Whole
+pub mod Given
 pub mod Checking

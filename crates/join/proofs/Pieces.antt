@@ -13,7 +13,7 @@ use Rattle.layers.specs.Layers.{blocksAt, headOf}
 use Rattle.layers.specs.Answers.{noHead}
 use Rattle.layers.specs.declared.LayerHead.{LayerHead}
 use Rattle.pack.specs.Pack.{Pack}
-use Rattle.join.specs.Join.{Chunk, withMu, shifted, copied, jointMu, jointRows, chunkHeads, jointLayer, chunksAt, joinedPack, joinable, joinPacks}
+use Rattle.join.specs.Join.{Chunk, withMu, shifted, copied, jointMu, jointRows, chunkHeads, jointLayer, chunksAt, jointDark, joinedPack, joinable, joinPacks}
 
 -- no node and no block
 abbrev noChunk : Chunk
@@ -41,6 +41,7 @@ layer-none chunks =
 -- a pack without nodes, whose layers have no block, of the others' r
 pub record Absent (r : ℕ) (p : Pack) : Type 0 where
   pub no-nodes : p .n ≡ 0
+  pub no-list : p .dark ≡ []
   pub same-r : p .r ≡ r
   pub no-blocks : (x : ℕ) → blocksAt (p .layers) x ≡ record { bound = 0; rows = [] }
 
@@ -53,6 +54,11 @@ module _ (first : Pack) (more : List Pack) (none : Pack) (absent : Absent (first
       map-append (λ (p : Pack). record { nodes = p .n; layer = blocksAt (p .layers) x }) packs (none ∷ [])
       ∙ (λ i. chunksAt x packs ++ (record { nodes = absent .no-nodes i; layer = absent .no-blocks x i } ∷ []))
 
+  list-none : (before : ℕ) (l : List Pack) → jointDark before (l ++ (none ∷ [])) ≡ jointDark before l
+  unfolding jointDark
+  list-none before [] = rw (absent .no-list)
+  list-none before (p ∷ l) = ap (λ (m : List ℕ). map (λ v. before + v) (p .dark) ++ m) (list-none (before + p .n) l)
+
   joined-none : joinedPack (packs ++ (none ∷ [])) ≡ joinedPack packs
   unfolding joinedPack total
   joined-none =
@@ -63,7 +69,7 @@ module _ (first : Pack) (more : List Pack) (none : Pack) (absent : Absent (first
       let layers-are =
       map-upTo-congr (λ x. jointLayer (chunksAt x (packs ++ (none ∷ [])))) (λ x. jointLayer (chunksAt x packs)) (first .r)
       (λ x lt. ap jointLayer (chunk-none x) ∙ layer-none (chunksAt x packs)) in
-      λ i. record { n = n-is i; r = first .r; layers = layers-are i }
+      λ i. record { n = n-is i; r = first .r; dark = list-none 0 packs i; layers = layers-are i }
 
   every-none : (l : List Pack) → every (λ p. eqb (p .r) (first .r)) (l ++ (none ∷ [])) ≡ every (λ p. eqb (p .r) (first .r)) l
   unfolding every

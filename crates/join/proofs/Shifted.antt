@@ -31,7 +31,7 @@ module _ (before : ℕ) where
       go true e = let same = eqb-true v w e in eq-eqb (before + v) (before + w) (omega arith)
       go false e = ne-eqb (before + v) (before + w) (λ same. eqb-false v w e (omega arith))
 
-  member-up : (v : ℕ) (row : List ℕ) → member (before + v) (map up row) ≡ member v row
+  pub member-up : (v : ℕ) (row : List ℕ) → member (before + v) (map up row) ≡ member v row
   unfolding member
   member-up v [] = refl
   member-up v (w ∷ row) = rw (eqb-up v w, member-up v row)
@@ -47,7 +47,7 @@ module _ (before : ℕ) where
   distinct-up (v ∷ nodes) = rw (member-up v nodes, distinct-up nodes)
 
   -- nodes that stand in a shifted row are not below the shift
-  low-of-member : (v : ℕ) (row : List ℕ) → T (member v (map up row)) → before ≤ v
+  pub low-of-member : (v : ℕ) (row : List ℕ) → T (member v (map up row)) → before ≤ v
   unfolding member
   low-of-member v [] m = absurd m
   low-of-member v (w ∷ row) m = go (member-cases v (before + w) (map up row) m) (low-of-member v row)
@@ -92,7 +92,7 @@ module _ (before : ℕ) where
           omega arith
 
   -- a row of nodes stays one, where there are nodes enough
-  ascending-up : (lo : ℕ) (row : List ℕ) → T (ascending lo row) → T (ascending (before + lo) (map up row))
+  pub ascending-up : (lo : ℕ) (row : List ℕ) → T (ascending lo row) → T (ascending (before + lo) (map up row))
   unfolding ascending
   ascending-up lo [] a = tt
   ascending-up lo (v ∷ row) a =
@@ -119,7 +119,7 @@ module _ (before : ℕ) where
       below : (v : ℕ) → v < n → before + v < before + n
       below v lt = omega arith
 
-ascending-low : (lo lo′ : ℕ) (row : List ℕ) → lo ≤ lo′ → T (ascending lo′ row) → T (ascending lo row)
+pub ascending-low : (lo lo′ : ℕ) (row : List ℕ) → lo ≤ lo′ → T (ascending lo′ row) → T (ascending lo row)
 unfolding ascending
 ascending-low lo lo′ [] h a = tt
 ascending-low lo lo′ (v ∷ row) h a =

@@ -1,40 +1,44 @@
 -- The joined pack written: its head's numbers, its length and its bytes, from what the code goes by. Assumes nothing.
 use Prim.Native.Nat.{ℕ, _+_, _*_, _-_, _≤_, _<_}
 use native.Mathlib.Omega.{arith}
-use native.Mathlib.Nat.{mul-le-mul}
+use native.Mathlib.Nat.{zero-add, mul-le-mul}
 use mathlib.Core.Path.{_≡_, refl, sym, _∙_, ap, subst}
 use mathlib.Core.Bool.{Bool, true, false, _&&_}
 use mathlib.Core.Logic.{_⊎_, inl, inr}
-use mathlib.Core.List.{List, _∷_, _++_, map, map-map, flatten}
-use lib.ListN.{length, getD, take, drop, length-append, length-drop}
+use mathlib.Core.List.{List, [], _∷_, _++_, map, map-map, flatten, append-nil}
+use lib.ListN.{length, getD, take, drop, length-append, length-drop, length-map}
 use lib.Seq.{take-at}
-use lib.Dec.{leb}
+use lib.Dec.{T, leb}
 use borrow.Author.Tests.{le-leb, lt-leb, eq-eqb}
 use Rattle.lists.specs.Lists.{All, every, largest, total, overStart, upTo}
 use Rattle.lists.proofs.Arith.{le-or-lt}
-use Rattle.lists.proofs.Alls.{all-map, all-of-map, all-flatten, length-flatten}
+use Rattle.lists.proofs.Alls.{all-map, all-of-map, all-imp, all-flatten, length-flatten}
 use Rattle.lists.proofs.UpTo.{length-map-upTo, getD-map-upTo, all-upTo}
 use Rattle.lists.proofs.Writing.{givenBack}
 use Rattle.refusal.specs.declared.Refusal.the-variants.{Unjoinable, ShortOutput}
 use Rattle.number.specs.Numbers.{largestNumber, formsOf}
-use Rattle.layers.specs.Layers.{headOf, headsOf, allRows, sizes, headNumbers}
-use Rattle.layers.specs.Answers.{noHead, fiveHeads}
+use Rattle.packing.specs.Rows.{inOrder}
+use Rattle.layers.specs.Layers.{headOf, headsOf, allRows, sizes, listNumbers}
+use Rattle.layers.specs.Answers.{noHead, fiveHeads, darkList}
+use Rattle.layers.specs.declared.Dark.{Dark}
 use Rattle.layers.specs.declared.LayerHead.{LayerHead}
 use Rattle.layers.proofs.Arrays.{getD-five, take-five}
 use Rattle.layers.proofs.Each.{layer-rows}
 use Rattle.layers.proofs.Layouts.{layersAt-lengths}
 use Rattle.layers.proofs.Lengths.{length-allRows}
+use Rattle.layers.proofs.Listing.{dark-count, dark-below}
 use Rattle.pack.specs.Pack.{Pack, packNumbers, bytesOfPack}
 use Rattle.pack.proofs.Written.{AtMost, numbers-most, pack-head-length}
-use Rattle.join.specs.Join.{jointMu, jointLayer, chunksAt, joinedPack, joinable, writeJoined, joinPacks}
+use Rattle.join.specs.Join.{jointMu, jointLayer, chunksAt, jointDark, joinedPack, joinable, writeJoined, joinPacks}
 use Rattle.join.specs.Answers.{JoinDone}
-use Rattle.join.specs.Estate.{piecePack, estatePacks, headsAt, cappedHeads, jointHeads, layersBelow, PieceFits, EstateFits, JointFits, LayersFit, putAt}
+use Rattle.join.specs.Estate.{piecePack, estatePacks, headsAt, cappedHeads, jointHeads, layersBelow, ListFits, threeLists, ListsFit, ListJoined, joinedNumbers, PieceFits, EstateFits, JointFits, LayersFit, putAt}
 use Rattle.join.specs.declared.Joined.{Joined}
 use Rattle.join.specs.declared.Joined.the-variants.{Written, Refused}
 use Rattle.join.specs.declared.Piece.{Piece}
 use Rattle.join.specs.declared.Estate.{Estate}
 use Rattle.join.specs.declared.JointHeads.{JointHeads}
 use Rattle.join.proofs.Good.{all-le-largest}
+use Rattle.join.proofs.Listed.{joint-ordered}
 use Rattle.join.proofs.Bytes.{put-put, put-back}
 use Rattle.join.proofs.Exact.{exactHeads, capped-exact, exact-capped, joined-heads, joined-bytes, joint-lengths}
 
@@ -44,6 +48,11 @@ piece-lengths : (r : ℕ) (piece : Piece) (bytes : List ℕ) → PieceFits r pie
 piece-lengths r piece bytes fits =
     layersAt-lengths r (take r (piece .layers)) (drop (piece .place) bytes)
     (rw (length-drop (piece .place) bytes) (omega (arith, fits .whole)))
+
+-- no node before
+map-zero : (l : List ℕ) → map (λ v. 0 + v) l ≡ l
+map-zero [] = refl
+map-zero (v ∷ l) = λ i. zero-add v i ∷ map-zero l i
 
 module _ (e : Estate) (f s t : List ℕ) where
   abbrev packs : List Pack
@@ -65,6 +74,24 @@ module _ (e : Estate) (f s t : List ℕ) where
   r-is : whole .r ≡ e .r
   unfolding joinedPack
   r-is = refl
+
+  -- the joined list
+  abbrev lists : List ℕ
+  lists = threeLists (e .a .dark) (e .b .dark) (e .c .dark) (e .a .nodes) (e .a .nodes + e .b .nodes)
+
+  list-is : whole .dark ≡ lists
+  unfolding joinedPack jointDark
+  list-is =
+      rw (
+        map-zero (darkList (e .a .dark)),
+        zero-add (e .a .nodes),
+        append-nil (map (λ v. e .a .nodes + e .b .nodes + v) (darkList (e .c .dark))),
+      )
+
+  list-ordered : EstateFits e f s t → T (inOrder (whole .n) (whole .dark))
+  unfolding joinedPack
+  list-ordered fits =
+      joint-ordered packs (fits .fits-a .list .ordered, (fits .fits-b .list .ordered, (fits .fits-c .list .ordered, tt)))
 
   layer-each : length (whole .layers) ≡ e .r
   unfolding joinedPack
@@ -106,6 +133,7 @@ module _ (e : Estate) (f s t : List ℕ) where
     at-most =
         record {
           n-most = omega (arith, nodes-are, fit .all-nodes);
+          dark-order = list-ordered (fit .estate);
           r-most = rw r-is (fit .estate .r-most);
           layer-each = layer-each ∙ sym r-is;
           mu-most = mu-most;
@@ -118,18 +146,34 @@ module _ (e : Estate) (f s t : List ℕ) where
         ∙ take-five noHead exact (e .r) (length-map-upTo _ (e .r)) (fit .estate .r-most)
         ∙ sym (joined-heads e f s t)
 
-    -- the head's numbers
-    abbrev numbers : List ℕ
-    numbers = 1 ∷ (e .a .nodes + e .b .nodes + e .c .nodes) ∷ e .r ∷ headNumbers (take (e .r) (joint .heads))
+    -- what joining the lists asks
+    count-most : (nodes : ℕ) (dark : Dark) → ListFits nodes dark → dark .count ≤ nodes
+    count-most nodes dark l = omega (arith, l .counted, dark-count nodes (darkList dark) (l .ordered))
 
-    numbers-are : numbers ≡ packNumbers whole
-    numbers-are = λ i. 1 ∷ sym nodes-are i ∷ sym r-is i ∷ headNumbers (taken-heads i)
+    list-bytes : (nodes : ℕ) (dark : Dark) → ListFits nodes dark → nodes ≤ 255 → All (λ v. v < 256) (darkList dark)
+    list-bytes nodes dark l few = all-imp _ _ (λ v lt. omega arith) (darkList dark) (dark-below nodes (darkList dark) (l .ordered))
 
-    pub head-asked : (e .r ≤ 5) × (All (λ v. v ≤ largestNumber) numbers × (length (formsOf numbers) ≤ 64))
-    head-asked = (
-      fit .estate .r-most,
-      subst (λ l. All (λ v. v ≤ largestNumber) l × (length (formsOf l) ≤ 64)) (sym numbers-are) (numbers-most whole at-most, pack-head-length whole at-most),
-    )
+    pub lists-asked : ListsFit (e .a .dark) (e .b .dark) (e .c .dark) (e .a .nodes) (e .a .nodes + e .b .nodes)
+    lists-asked =
+        let a = fit .estate .fits-a .list in
+        let b = fit .estate .fits-b .list in
+        let c = fit .estate .fits-c .list in
+        record {
+          counted-a = a .counted;
+          counted-b = b .counted;
+          counted-c = c .counted;
+          few =
+              omega (
+                arith,
+                count-most (e .a .nodes) (e .a .dark) a,
+                count-most (e .b .nodes) (e .b .dark) b,
+                count-most (e .c .nodes) (e .c .dark) c,
+                fit .all-nodes,
+              );
+          bytes-b = list-bytes (e .b .nodes) (e .b .dark) b (fit .estate .nodes-most .1);
+          bytes-c = list-bytes (e .c .nodes) (e .c .dark) c (fit .estate .nodes-most .2);
+          before-most = (omega (arith, fit .all-nodes), omega (arith, fit .all-nodes));
+        }
 
     -- the blocks
     abbrev blocks : List ℕ
@@ -153,33 +197,64 @@ module _ (e : Estate) (f s t : List ℕ) where
     pub rows-length : joint .rows * e .r ≤ 20_480
     rows-length = omega (arith, mul-le-mul (fit .rows-most) (fit .estate .r-most))
 
-    bytes-are : bytesOfPack whole ≡ formsOf numbers ++ blocks
-    unfolding bytesOfPack
-    bytes-are = λ i. formsOf (sym numbers-are i) ++ blocks-are i
+    -- with the list that the code has made
+    module _ {dark : Dark} (made : ListJoined (e .a .dark) (e .b .dark) (e .c .dark) (e .a .nodes) (e .a .nodes + e .b .nodes) dark) where
+      -- the head's numbers
+      abbrev numbers : List ℕ
+      numbers = joinedNumbers (record { n = e .a .nodes + e .b .nodes + e .c .nodes; r = e .r; dark = dark }) (joint .heads)
 
-    module _ {at : ℕ} (at-is : at ≡ length (formsOf numbers)) where
-      pub length-is : at + joint .rows * e .r ≡ length (bytesOfPack whole)
-      length-is = sym (ap length bytes-are ∙ length-append (formsOf numbers) blocks ∙ omega (arith, blocks-length))
+      lists-length : length lists ≡ dark .count
+      lists-length =
+          let a = lists-asked .counted-a in
+          let b = lists-asked .counted-b in
+          let c = lists-asked .counted-c in
+          simp (length-append, length-map) (omega (arith, made .counted))
 
-      pub layers-asked : (rest : List ℕ) → joint .rows * e .r ≤ length rest → LayersFit e (joint .heads) f s t rest
-      layers-asked rest room =
-          record { estate = fit .estate; all-nodes = fit .all-nodes; room = omega (arith, blocks-length) }
+      numbers-are : numbers ≡ packNumbers 4 whole
+      unfolding listNumbers
+      numbers-are =
+          rw (made .joined, taken-heads, nodes-are, list-is, lists-length, r-is)
 
-      module _ (buffer out out₁ zeros : List ℕ) (head-is : buffer ≡ overStart (formsOf numbers) zeros)
-          (copied-is : out₁ ≡ overStart (take (at - 0) (drop 0 buffer)) out) where
-        part-is : take (at - 0) (drop 0 buffer) ≡ formsOf numbers
-        part-is = let g : at - 0 ≡ at = omega arith in rw (g, head-is) (take-at (formsOf numbers) _ at (sym at-is))
+      pub count-few : dark .count ≤ 255
+      count-few = omega (arith, made .counted, lists-asked .few)
 
-        pub out-is : out₁ ≡ putAt 0 (formsOf numbers) out
-        out-is = copied-is ∙ rw part-is
+      pub head-asked : (dark .count ≤ 255) × ((e .r ≤ 5) × (All (λ v. v ≤ largestNumber) numbers × (length (formsOf numbers) ≤ 448)))
+      head-asked = (
+        count-few,
+        (
+          fit .estate .r-most,
+          subst (λ l. All (λ v. v ≤ largestNumber) l × (length (formsOf l) ≤ 448)) (sym numbers-are)
+              (numbers-most whole at-most, pack-head-length whole at-most),
+        ),
+      )
 
-        pub joined-written : (last : List ℕ) → length (formsOf numbers) ≤ length out
-            → last ≡ overStart blocks (take (length out₁ - at) (drop at out₁)) → givenBack out₁ at last ≡ overStart (bytesOfPack whole) out
-        joined-written last fits last-is =
-            let zero-at : 0 + length (formsOf numbers) ≡ at = omega arith in
-            let step : putAt at blocks out₁ ≡ putAt 0 (formsOf numbers ++ blocks) out =
-            rw (out-is, ← zero-at) (put-put 0 (formsOf numbers) blocks out (omega arith)) in
-            put-back at blocks out₁ last last-is ∙ step ∙ ap (λ (l : List ℕ). overStart l out) (sym bytes-are)
+      bytes-are : bytesOfPack whole ≡ formsOf numbers ++ blocks
+      unfolding bytesOfPack
+      bytes-are = λ i. formsOf (sym numbers-are i) ++ blocks-are i
+
+      module _ {at : ℕ} (at-is : at ≡ length (formsOf numbers)) where
+        pub length-is : at + joint .rows * e .r ≡ length (bytesOfPack whole)
+        length-is = sym (ap length bytes-are ∙ length-append (formsOf numbers) blocks ∙ omega (arith, blocks-length))
+
+        pub layers-asked : (rest : List ℕ) → joint .rows * e .r ≤ length rest → LayersFit e (joint .heads) f s t rest
+        layers-asked rest room =
+            record { estate = fit .estate; all-nodes = fit .all-nodes; room = omega (arith, blocks-length) }
+
+        module _ (buffer out out₁ zeros : List ℕ) (head-is : buffer ≡ overStart (formsOf numbers) zeros)
+            (copied-is : out₁ ≡ overStart (take (at - 0) (drop 0 buffer)) out) where
+          part-is : take (at - 0) (drop 0 buffer) ≡ formsOf numbers
+          part-is = let g : at - 0 ≡ at = omega arith in rw (g, head-is) (take-at (formsOf numbers) _ at (sym at-is))
+
+          pub out-is : out₁ ≡ putAt 0 (formsOf numbers) out
+          out-is = copied-is ∙ rw part-is
+
+          pub joined-written : (last : List ℕ) → length (formsOf numbers) ≤ length out
+              → last ≡ overStart blocks (take (length out₁ - at) (drop at out₁)) → givenBack out₁ at last ≡ overStart (bytesOfPack whole) out
+          joined-written last fits last-is =
+              let zero-at : 0 + length (formsOf numbers) ≡ at = omega arith in
+              let step : putAt at blocks out₁ ≡ putAt 0 (formsOf numbers ++ blocks) out =
+              rw (out-is, ← zero-at) (put-put 0 (formsOf numbers) blocks out (omega arith)) in
+              put-back at blocks out₁ last last-is ∙ step ∙ ap (λ (l : List ℕ). overStart l out) (sym bytes-are)
 
 -- An output that is too short, and one that is not.
 pub done-short : (p : Pack) (out : List ℕ) {size : ℕ} → size ≡ length (bytesOfPack p) → length out < size

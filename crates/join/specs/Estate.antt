@@ -4,12 +4,17 @@ use mathlib.Core.Path.{_≡_}
 use mathlib.Core.Bool.{Bool, true, false}
 use mathlib.Core.List.{List, [], _∷_, _++_, map, flatten}
 use lib.ListN.{length, getD, take, drop}
+use lib.Dec.{T}
 use Rattle.lists.specs.Lists.{All, largest, overStart, upTo}
 use Rattle.refusal.specs.declared.Refusal.{Refusal}
 use Rattle.refusal.specs.declared.Refusal.the-variants.{Unjoinable}
 use Rattle.refusal.specs.Checked.{Checked, accepted}
-use Rattle.layers.specs.Layers.{Located, layersAt, sizes}
-use Rattle.layers.specs.Answers.{noHead, fiveHeads}
+use Rattle.packing.specs.Rows.{inOrder}
+use Rattle.layers.specs.Layers.{Located, layersAt, sizes, headNumbers}
+use Rattle.layers.specs.Written.{startNumbers}
+use Rattle.layers.specs.declared.Base.{Base}
+use Rattle.layers.specs.Answers.{noHead, fiveHeads, darkList}
+use Rattle.layers.specs.declared.Dark.{Dark}
 use Rattle.layers.specs.declared.LayerHead.{LayerHead}
 use Rattle.pack.specs.Pack.{Pack, readPack}
 use Rattle.pack.specs.declared.PackAnswer.{PackAnswer}
@@ -23,7 +28,12 @@ use Rattle.join.specs.declared.Layering.{Layering}
 -- the pack that a piece stands for: its blocks are the bytes from their place on
 abbrev pub piecePack : (r : ℕ) → Piece → (bytes : List ℕ) → Pack
 piecePack r piece bytes =
-    record { n = piece .nodes; r = r; layers = layersAt r (take r (piece .layers)) (drop (piece .place) bytes) }
+    record {
+      n = piece .nodes;
+      r = r;
+      dark = darkList (piece .dark);
+      layers = layersAt r (take r (piece .layers)) (drop (piece .place) bytes);
+    }
 
 abbrev pub estatePacks : Estate → (first second third : List ℕ) → List Pack
 estatePacks e first second third =
@@ -33,7 +43,7 @@ estatePacks e first second third =
 abbrev pub readPiece : (given : Bool) (r : ℕ) → List ℕ → Checked (Located Pack)
 readPiece true r bytes = readPack bytes
 readPiece false r bytes =
-    accepted (record { content = record { n = 0; r = r; layers = [] }; first = length bytes })
+    accepted (record { content = record { n = 0; r = r; dark = []; layers = [] }; first = length bytes })
 
 -- the refusal of a pack that was not accepted; the code asks it of no other
 abbrev pub refusalOf : PackAnswer → Refusal
@@ -111,8 +121,38 @@ module _ (e : Estate) (heads : List LayerHead) (first second third : List ℕ) w
   abbrev pub layersBelow : (x : ℕ) → List ℕ
   layersBelow x = flatten (map layerAt (upTo x))
 
+-- a list of nodes out of service: as many as its count, strictly ascending and below the pack's own count
+pub record ListFits (nodes : ℕ) (dark : Dark) : Type 0 where
+  pub counted : length (darkList dark) ≡ dark .count
+  pub ordered : T (inOrder nodes (darkList dark))
+
+-- three lists joined, where so many nodes come before those of the second and of the third
+abbrev pub threeLists : (a b c : Dark) (second third : ℕ) → List ℕ
+threeLists a b c second third =
+    darkList a ++ (map (λ v. second + v) (darkList b) ++ map (λ v. third + v) (darkList c))
+
+-- what joining them asks: together at most 255, each number a byte
+pub record ListsFit (a b c : Dark) (second third : ℕ) : Type 0 where
+  pub counted-a : length (darkList a) ≡ a .count
+  pub counted-b : length (darkList b) ≡ b .count
+  pub counted-c : length (darkList c) ≡ c .count
+  pub few : a .count + b .count + c .count ≤ 255
+  pub bytes-b : All (λ v. v < 256) (darkList b)
+  pub bytes-c : All (λ v. v < 256) (darkList c)
+  pub before-most : (second ≤ 255) × (third ≤ 255)
+
+-- the list that is made of them
+pub record ListJoined (a b c : Dark) (second third : ℕ) (dark : Dark) : Type 0 where
+  pub counted : dark .count ≡ a .count + b .count + c .count
+  pub joined : darkList dark ≡ threeLists a b c second third
+
+-- the numbers of the joined pack's head
+abbrev pub joinedNumbers : Base → List LayerHead → List ℕ
+joinedNumbers base heads = startNumbers 4 base ++ headNumbers (take (base .r) heads)
+
 -- the blocks have nodes below the pack's own count, and are within the bytes
 pub record PieceFits (r : ℕ) (piece : Piece) (bytes : List ℕ) : Type 0 where
+  pub list : ListFits (piece .nodes) (piece .dark)
   pub heads : HeadsFit (piece .layers)
   pub whole : piece .place + sizes (take r (piece .layers)) * r ≤ length bytes
   pub below : All (λ v. v < piece .nodes) (drop (piece .place) bytes)

@@ -56,6 +56,12 @@ jointLayer chunks =
 abbrev pub chunksAt : (x : ℕ) → List Pack → List Chunk
 chunksAt x packs = map (λ p. record { nodes = p .n; layer = blocksAt (p .layers) x }) packs
 
+-- request (h): "Joining chunks shifts and joins the lists": each pack's nodes out of service, with node numbers after the ones
+-- before, one list after another
+unfoldable pub jointDark : (before : ℕ) → List Pack → List ℕ
+jointDark before [] = []
+jointDark before (p ∷ packs) = map (λ v. before + v) (p .dark) ++ jointDark (before + p .n) packs
+
 -- the r of the first pack
 abbrev pub firstR : List Pack → ℕ
 firstR [] = 0
@@ -66,6 +72,7 @@ joinedPack packs =
     record {
       n = total (map (λ p. p .n) packs);
       r = firstR packs;
+      dark = jointDark 0 packs;
       layers = map (λ x. jointLayer (chunksAt x packs)) (upTo (firstR packs));
     }
 

@@ -1,4 +1,5 @@
 // What joining packs gives, and what its code goes by.
+use layers::Dark;
 use layers::LayerHead;
 use refusal::Refusal;
 
@@ -8,11 +9,12 @@ pub enum Joined {
     Refused(Refusal),
 }
 
-// A pack that is joined: its nodes, the place of its first block, and mu and m of each layer.
+// A pack that is joined: its nodes, the place of its first block, mu and m of each layer, and the nodes out of service.
 pub struct Piece {
     pub nodes: usize,
     pub place: usize,
     pub layers: [LayerHead; 5],
+    pub dark: Dark,
 }
 
 // Three packs of one r; one that is not there has no node and no block.

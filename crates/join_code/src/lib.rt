@@ -1,12 +1,10 @@
 // Joining packs: checked in order, then joined layer by layer into one.
-mod head;
 mod multiple;
-mod writer;
 
 use join::Estate;
 use join::Joined;
-use join::JointHeads;
 use join::Piece;
+use layers::Dark;
 use layers::LayerHead;
 use pack::PackAnswer;
 use pack::PackCheck;
@@ -17,10 +15,10 @@ ghost use Prim.Native.Nat.{_≤_};
 ghost use mathlib.Core.List.{[], _∷_};
 ghost use lib.ListN.{length, take};
 ghost use Rattle.pack.specs.Answers.{packChecked};
-ghost use Rattle.join.specs.Join.{joinedPack, writeJoined, joinPacks, join as joinOf};
+ghost use Rattle.join.specs.Join.{joinPacks, join as joinOf};
 ghost use Rattle.join.specs.Answers.{JoinDone};
 ghost use Rattle.join.specs.declared.Joined.the-variants.{Refused};
-ghost use Rattle.join.specs.Estate.{estatePacks, readPiece, refusalOf, EstateFits, JointFits};
+ghost use Rattle.join.specs.Estate.{estatePacks, readPiece, refusalOf, EstateFits};
 
 // Checks a pack; where none is given, one with no node and no block, of this r.
 fn check_piece(bytes: &[u8], given: bool, r: usize) -> PackCheck
@@ -37,39 +35,11 @@ fn check_piece(bytes: &[u8], given: bool, r: usize) -> PackCheck
     PackCheck {
         answer: PackAnswer::Accepted(head),
         layers: [LayerHead { bound: 0, size: 0 }; 5],
+        dark: Dark {
+            count: 0,
+            nodes: [0; 255],
+        },
     }
-}
-
-// Writes the joined pack with these mu's and m's to the start of `out`, or refuses an output that is shorter.
-fn write_joined(
-    first: &[u8],
-    second: &[u8],
-    third: &[u8],
-    estate: Estate,
-    joint: JointHeads,
-    out: &mut [u8],
-) -> Joined
-    requires { ⌜ JointFits estate joint (now first) (now second) (now third) ⌝ }
-    ensures { λ given. ⌜ JoinDone
-        (writeJoined (joinedPack (estatePacks estate (now (first .entry)) (now (second .entry)) (now (third .entry)))) (length (now (out .entry))))
-        (now (out .entry)) (now (out .exit)) given ⌝ }
-{
-    let r = estate.r;
-    let one = estate.a;
-    let two = estate.b;
-    let three = estate.c;
-    let n = one.nodes + two.nodes + three.nodes;
-    let heads = joint.heads;
-    let rows = joint.rows;
-    let mut head = [0u8; 64];
-    let at = crate::head::write_head(&mut head, n, r, heads);
-    let length = at + rows * r;
-    if out.len() < length {
-        return Joined::Refused(Refusal::ShortOutput(length));
-    }
-    rows_code::copy_bytes(out, &head[0..at]);
-    crate::writer::write_layers(&mut out[at..], first, second, third, estate, heads);
-    Joined::Written(length)
 }
 
 // Joins three packs of one r: refuses what passes the limits, then writes.
@@ -97,7 +67,7 @@ fn join_estate(first: &[u8], second: &[u8], third: &[u8], estate: Estate, out: &
     if 4_096 < joint.rows {
         return Joined::Refused(Refusal::Unjoinable);
     }
-    write_joined(first, second, third, estate, joint, out)
+    join_writer::write_joined(first, second, third, estate, joint, out)
 }
 
 // The refusal of a pack that was not accepted; the code asks it of no other.
@@ -143,22 +113,28 @@ fn join_packs(packs: usize, first: &[u8], second: &[u8], third: &[u8], out: &mut
     let a_layers = a.layers;
     let b_layers = b.layers;
     let c_layers = c.layers;
+    let a_dark = a.dark;
+    let b_dark = b.dark;
+    let c_dark = c.dark;
     let estate = Estate {
         r,
         a: Piece {
             nodes: a_head.n,
             place: a_head.first,
             layers: a_layers,
+            dark: a_dark,
         },
         b: Piece {
             nodes: b_head.n,
             place: b_head.first,
             layers: b_layers,
+            dark: b_dark,
         },
         c: Piece {
             nodes: c_head.n,
             place: c_head.first,
             layers: c_layers,
+            dark: c_dark,
         },
     };
     join_estate(first, second, third, estate, out)

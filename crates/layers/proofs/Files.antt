@@ -10,8 +10,7 @@ use Rattle.lists.specs.Lists.{All}
 use Rattle.refusal.specs.Checked.{accepted}
 use Rattle.number.specs.Numbers.{Bytes}
 use Rattle.packing.specs.Rows.{Row}
-use Rattle.layers.specs.Layers.{Layer, LayerHeads, allRows, headsOf, headNumbers, Packings, File, readLayers, checkRows}
-use Rattle.layers.specs.declared.Base.{Base}
+use Rattle.layers.specs.Layers.{Layer, LayerHeads, Site, InService, allRows, headsOf, headNumbers, Packings, File, readLayers, checkRows}
 use Rattle.layers.specs.declared.LayerLimits.{LayerLimits}
 use Rattle.layers.proofs.NumbersRead.{Reads, reads-forms, forms-reads}
 use Rattle.layers.proofs.Heads.{HeadsWithin, reads-of-readLayers, readLayers-accepted}
@@ -43,16 +42,17 @@ read-file head layers s first b f =
     (take first s, [], reads-forms head s 0 first b (omega arith) (f .reads), refl, whole)
 
 -- Layers whose numbers are read from `at` to `first`, and whose rows stand from there to the end: all within their limits,
--- in order and packings.
-pub record LayersHeld (limits : LayerLimits) (base : Base) (left room : ℕ) (s : List ℕ) (at first : ℕ) (layers : List Layer) : Type 0 where
+-- in order, in service and packings.
+pub record LayersHeld (limits : LayerLimits) (base : Site) (left room : ℕ) (s : List ℕ) (at first : ℕ) (layers : List Layer) : Type 0 where
   pub reads : Reads (headNumbers (headsOf layers)) s at first
   pub within : HeadsWithin limits left room (headsOf layers)
   pub inside : first ≤ length s
   pub rest : drop first s ≡ flatten (allRows layers)
   pub rows : All (Row (base .n) (base .r)) (allRows layers)
+  pub in-service : InService (base .dark) (allRows layers)
   pub packings : Packings 0 layers
 
-module _ (limits : LayerLimits) (base : Base) (left room : ℕ) (s : List ℕ) (at : ℕ) where
+module _ (limits : LayerLimits) (base : Site) (left room : ℕ) (s : List ℕ) (at : ℕ) where
   -- The layers' numbers and rows are accepted exactly where they are read so.
   pub held-of-layers : {head : LayerHeads} {layers : List Layer} → readLayers limits left room s at ≡ accepted head
       → checkRows base (head .heads) s (head .next) ≡ accepted layers
@@ -68,6 +68,7 @@ module _ (limits : LayerLimits) (base : Base) (left room : ℕ) (s : List ℕ) (
         inside = omega arith;
         rest = taken-bytes base (head .heads) s (head .next) taken;
         rows = taken .rows;
+        in-service = taken .in-service;
         packings = taken .packings;
       }
 
@@ -79,4 +80,4 @@ module _ (limits : LayerLimits) (base : Base) (left room : ℕ) (s : List ℕ) (
   pub rows-accepted : {first : ℕ} {layers : List Layer} → LayersHeld limits base left room s at first layers
       → checkRows base (headsOf layers) s first ≡ accepted layers
   rows-accepted {first} {layers} l =
-      checkRows-accepted base (headsOf layers) s first (taken-of-bytes base s first layers (l .inside) (l .rest) (l .rows) (l .packings))
+      checkRows-accepted base (headsOf layers) s first (taken-of-bytes base s first layers (l .inside) (l .rest) (l .rows) (l .in-service) (l .packings))

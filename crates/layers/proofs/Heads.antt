@@ -14,11 +14,12 @@ use Rattle.refusal.proofs.Checked.{accepted-injective, bind-elim, require-bind-
 use Rattle.number.specs.Numbers.{readNumber, readWithin}
 use Rattle.number.specs.declared.Reading.{Reading}
 use Rattle.number.proofs.Within.{read-of-readWithin, readWithin-accepted}
-use Rattle.layers.specs.Layers.{LayerHeads, headNumbers, sizes, BaseReading, BaseLimits, leastSize, isKind, readKind, readBase, readLayers}
+use Rattle.layers.specs.Layers.{LayerHeads, headNumbers, sizes, Site, BaseReading, BaseLimits, DarkLimits, leastSize, isKind, listNumbers, readKind, readDark, readBase, readLayers}
 use Rattle.layers.specs.declared.FileKind.{FileKind}
 use Rattle.layers.specs.declared.LayerHead.{LayerHead}
 use Rattle.layers.specs.declared.LayerLimits.{LayerLimits}
 use Rattle.layers.proofs.NumbersRead.{Reads, reads-le-length}
+use Rattle.layers.proofs.Listing.{reads-of-readDark, readDark-accepted}
 
 -- The first number is accepted exactly where it is read and is the file's kind.
 pub read-of-readKind : (file : FileKind) (s : List ℕ) {n : Reading} → readKind file s ≡ accepted n
@@ -36,42 +37,53 @@ pub readKind-accepted : (file : FileKind) (kind : ℕ) (s : List ℕ) {next : �
 unfolding readKind
 readKind-accepted file kind s is e = rw (e, true-T (isKind file kind) is)
 
--- "The number 1; n; r", "The number 2; n; r": accepted exactly where they are read and within their limits
-pub reads-of-readBase : (file : FileKind) (s : List ℕ) {b : BaseReading} → readBase file s ≡ accepted b
-    → Reads (b .kind ∷ b .base .n ∷ b .base .r ∷ []) s 0 (b .next) × BaseLimits (b .base .n) (b .base .r)
-    × T (isKind file (b .kind))
+-- "The number 1; n; r", "The number 2; n; r", and the list: accepted exactly where they are read and within their limits
+abbrev pub baseNumbers : (kind : ℕ) → Site → List ℕ
+baseNumbers kind base = kind ∷ base .n ∷ base .r ∷ listNumbers kind (base .dark)
+
+pub record BaseHeld (file : FileKind) (s : List ℕ) (b : BaseReading) : Type 0 where
+  pub reads : Reads (baseNumbers (b .kind) (b .base)) s 0 (b .next)
+  pub limits : BaseLimits (b .base .n) (b .base .r)
+  pub dark : DarkLimits (b .kind) (b .base .n) (b .base .dark)
+  pub kind : T (isKind file (b .kind))
+
+pub held-of-readBase : (file : FileKind) (s : List ℕ) {b : BaseReading} → readBase file s ≡ accepted b → BaseHeld file s b
 unfolding readBase
-reads-of-readBase file s e =
+held-of-readBase file s e =
     bind-elim (readKind file s) _ e λ first e₁ r₁.
     bind-elim (readWithin 2 255 s (first .next)) _ r₁ λ n e₂ r₂.
     bind-elim (readWithin 2 (min 5 (n .value)) s (n .next)) _ r₂ λ r e₃ r₃.
+    bind-elim (readDark (first .value) (n .value) s (r .next)) _ r₃ λ list e₄ r₄.
     let (read₁, is) = read-of-readKind file s e₁ in
     let (read₂, n-least, n-most) = read-of-readWithin 2 255 s (first .next) e₂ in
     let (read₃, r-least, r-most) = read-of-readWithin 2 (min 5 (n .value)) s (n .next) e₃ in
+    let (read₄, dark) = reads-of-readDark (first .value) (n .value) s (r .next) (omega arith) e₄ in
     subst
-    (λ b. Reads (b .kind ∷ b .base .n ∷ b .base .r ∷ []) s 0 (b .next) × BaseLimits (b .base .n) (b .base .r)
-    × T (isKind file (b .kind)))
-    (accepted-injective r₃) (
-      (first .next, read₁, (n .next, read₂, (r .next, read₃, refl))),
-      record { n-least = omega arith; n-most = omega arith; r-least = omega arith; r-most = omega arith; r-nodes = omega arith },
-      is,
-    )
+    (BaseHeld file s)
+    (accepted-injective r₄)
+    (record {
+      reads = (first .next, read₁, (n .next, read₂, (r .next, read₃, read₄)));
+      limits =
+          record { n-least = omega arith; n-most = omega arith; r-least = omega arith; r-most = omega arith; r-nodes = omega arith };
+      dark = dark;
+      kind = is;
+    })
 
--- n and r end within the bytes
+-- they end within the bytes
 pub readBase-inside : (file : FileKind) (s : List ℕ) {b : BaseReading} → readBase file s ≡ accepted b → b .next ≤ length s
 readBase-inside file s {b} e =
-    reads-le-length (b .kind ∷ b .base .n ∷ b .base .r ∷ []) s 0 (b .next) (omega arith) (reads-of-readBase file s e .0)
+    reads-le-length (baseNumbers (b .kind) (b .base)) s 0 (b .next) (omega arith) (held-of-readBase file s e .reads)
 
-pub readBase-accepted : (file : FileKind) (kind n r : ℕ) (s : List ℕ) (next : ℕ) → Reads (kind ∷ n ∷ r ∷ []) s 0 next
-    → T (isKind file kind) → BaseLimits n r
-    → readBase file s ≡ accepted (record { kind = kind; base = record { n = n; r = r }; next = next })
+pub readBase-accepted : (file : FileKind) (kind : ℕ) (base : Site) (s : List ℕ) (next : ℕ) → Reads (baseNumbers kind base) s 0 next
+    → T (isKind file kind) → BaseLimits (base .n) (base .r) → DarkLimits kind (base .n) (base .dark)
+    → readBase file s ≡ accepted (record { kind = kind; base = base; next = next })
 unfolding readBase
-readBase-accepted file kind n r s next (p, read₁, (q, read₂, (end, read₃, e))) is l =
+readBase-accepted file kind base s next (p, read₁, (q, read₂, (t, read₃, list))) is l d =
     rw (
       readKind-accepted file kind s is read₁,
       readWithin-accepted 2 255 s p read₂ (omega (arith, l .n-least)) (omega (arith, l .n-most)),
-      readWithin-accepted 2 (min 5 n) s q read₃ (omega (arith, l .r-least)) (omega (arith, l .r-most, l .r-nodes)),
-      e,
+      readWithin-accepted 2 (min 5 (base .n)) s q read₃ (omega (arith, l .r-least)) (omega (arith, l .r-most, l .r-nodes)),
+      readDark-accepted kind (base .n) s t (base .dark) next list d,
     )
 
 -- the sizes of `left` layers sum to at most `room` or, where they must fill it, to it

@@ -3,7 +3,7 @@ use Prim.Native.Nat.{ℕ}
 use native.Mathlib.Omega.{arith}
 use mathlib.Core.Path.{_≡_, refl, sym, _∙_}
 use mathlib.Core.Logic.{_↔_, _⊎_, inl, inr, ⊎-elim}
-use mathlib.Core.Bool.{Bool, true, false}
+use mathlib.Core.Bool.{Bool, true, false, _||_}
 use mathlib.Core.List.{List}
 use Rattle.lists.proofs.Tests.{false-T, T-not-false, or-cases}
 use lib.Dec.{T, eqb, eqb→eq}
@@ -18,14 +18,18 @@ use Rattle.layers.specs.declared.FileKind.{FileKind}
 use Rattle.layers.specs.declared.FileKind.the-variants.{Pack, Placement}
 use Rattle.layers.specs.Meaning.{KindRefused}
 
--- a pack's first number is 1
-pub pack-kinds : (kind : ℕ) → T (isKind Pack kind) → kind ≡ 1
-pack-kinds kind t = eqb→eq kind 1 t
+-- a pack's first number is 1 or 4
+pub pack-kinds : (kind : ℕ) → T (isKind Pack kind) → (kind ≡ 1) ⊎ (kind ≡ 4)
+pack-kinds kind t =
+    ⊎-elim (λ one. inl (eqb→eq kind 1 one)) (λ four. inr (eqb→eq kind 4 four)) (or-cases (eqb kind 1) (eqb kind 4) t)
 
--- a placement's is 2 or 3
-pub placement-kinds : (kind : ℕ) → T (isKind Placement kind) → (kind ≡ 2) ⊎ (kind ≡ 3)
+-- a placement's is 2, 3 or 5
+pub placement-kinds : (kind : ℕ) → T (isKind Placement kind) → (kind ≡ 2) ⊎ ((kind ≡ 3) ⊎ (kind ≡ 5))
 placement-kinds kind t =
-    ⊎-elim (λ two. inl (eqb→eq kind 2 two)) (λ three. inr (eqb→eq kind 3 three)) (or-cases (eqb kind 2) (eqb kind 3) t)
+    ⊎-elim
+    (λ old. ⊎-elim (λ two. inl (eqb→eq kind 2 two)) (λ three. inr (inl (eqb→eq kind 3 three))) (or-cases (eqb kind 2) (eqb kind 3) old))
+    (λ five. inr (inr (eqb→eq kind 5 five)))
+    (or-cases (eqb kind 2 || eqb kind 3) (eqb kind 5) t)
 
 pub kind-refused-iff : (file : FileKind) (s : List ℕ) (e : Refusal) → (readKind file s ≡ refused e) ↔ KindRefused file s e
 unfolding readKind

@@ -1,8 +1,10 @@
 pub mod Lengths
 pub mod NumbersRead
+pub mod Listing
 pub mod Heads
 pub mod Layouts
 pub mod Packings
+pub mod Service
 pub mod RowsChecked
 pub mod Files
 pub mod Prefix
@@ -11,6 +13,9 @@ pub mod Worked
 pub mod Answered
 pub mod Meaning
 pub mod KindMeaning
+pub mod ListMeaning
 pub mod Padding
+pub mod RowsPadding
 pub mod Each
 pub mod HeadNumbers
+pub mod TwoParts

@@ -1,4 +1,4 @@
--- Refusals 1, 5, 6 and 7 of rows are given exactly where document 01's conditions hold, with their places, for every file
+-- Refusals 1, 5, 6, 15 and 7 of rows are given exactly where document 01's conditions hold, with their places, for every file
 -- and any x. Assumes nothing.
 use Prim.Native.Nat.{ℕ, suc, _+_, _*_, _-_, _≤_, _<_}
 use native.Mathlib.Omega.{arith}
@@ -20,12 +20,12 @@ use Rattle.refusal.specs.declared.Refusal.the-variants.{Ended, Malformed, Wrong
 use Rattle.refusal.specs.Checked.{Checked, accepted, refused, _>>=_}
 use Rattle.packing.specs.Rows.{Row, inOrder, firstBad, firstCrowded}
 use Rattle.packing.proofs.Test.{FirstCrowded, first-crowded-meaning, uncrowded-packing, packing-no-set, good-iff-in-order}
-use Rattle.layers.specs.Layers.{Layer, Packings, allRows, firstOf, firstCrowdedOf, checkLength, checkEnd, checkAscending, checkPackings, checkRows}
+use Rattle.layers.specs.Layers.{Layer, Packings, Site, allRows, firstOf, firstNaming, firstCrowdedOf, checkLength, checkEnd, checkAscending, checkService, checkPackings, checkRows}
 use Rattle.layers.specs.Meaning.{FirstAt, BadAt, CrowdedAt, standing, rowsEnd, RowsRefused}
-use Rattle.layers.specs.declared.Base.{Base}
 use Rattle.layers.specs.declared.LayerHead.{LayerHead}
 use Rattle.layers.proofs.Layouts.{layersAt-lengths}
 use Rattle.layers.proofs.Packings.{uncrowded-packings}
+use Rattle.layers.proofs.Service.{service-iff, first-naming-meaning}
 
 -- there is one first place
 pub first-at-unique : (P : ℕ → Type 0) (i j : ℕ) → FirstAt P i → FirstAt P j → i ≡ j
@@ -143,7 +143,7 @@ first-crowded-of-meaning n r x layers i rows = (found-crowded n r x layers i row
         go (some j) e = e ∙ ap some (first-at-unique (CrowdedAt x layers) j i (found-crowded n r x layers j rows e) f)
 
 -- What checking rows gives in each case.
-module _ (base : Base) (heads : List LayerHead) (s : List ℕ) (at : ℕ) where
+module _ (base : Site) (heads : List LayerHead) (s : List ℕ) (at : ℕ) where
   rows : List (List ℕ)
   rows = allRows (standing base heads s at)
 
@@ -162,7 +162,8 @@ module _ (base : Base) (heads : List LayerHead) (s : List ℕ) (at : ℕ) where
   module _ (ends : length s ≡ rowsEnd base heads s at) where
     whole : checkRows base heads s at
         ≡ (checkAscending base at rows
-        >>= λ u. checkPackings (base .r) at (standing base heads s at) >>= λ v. accepted (standing base heads s at))
+        >>= λ u. checkService base at rows
+        >>= λ v. checkPackings (base .r) at (standing base heads s at) >>= λ w. accepted (standing base heads s at))
     unfolding rows checkLength checkEnd checkRows
     whole = rw (← ends, le-leb (length s) (length s) (le-refl (length s)))
 
@@ -171,15 +172,21 @@ module _ (base : Base) (heads : List LayerHead) (s : List ℕ) (at : ℕ) where
     when-bad e = rw (whole, e)
 
     module _ (good : firstBad (base .n) rows ≡ none) where
-      when-crowded : {i : ℕ} → firstCrowdedOf 0 (standing base heads s at) ≡ some i
-          → checkRows base heads s at ≡ refused (Crowded (at + i * base .r))
-      unfolding checkAscending checkPackings
-      when-crowded e = rw (whole, good, e)
+      when-dark : {i : ℕ} → firstNaming (base .dark) rows ≡ some i
+          → checkRows base heads s at ≡ refused (OutOfService (at + i * base .r))
+      unfolding checkAscending checkService
+      when-dark e = rw (whole, good, e)
 
-      when-none : firstCrowdedOf 0 (standing base heads s at) ≡ none
-          → checkRows base heads s at ≡ accepted (standing base heads s at)
-      unfolding checkAscending checkPackings
-      when-none e = rw (whole, good, e)
+      module _ (light : firstNaming (base .dark) rows ≡ none) where
+        when-crowded : {i : ℕ} → firstCrowdedOf 0 (standing base heads s at) ≡ some i
+            → checkRows base heads s at ≡ refused (Crowded (at + i * base .r))
+        unfolding checkAscending checkService checkPackings
+        when-crowded e = rw (whole, good, light, e)
+
+        when-none : firstCrowdedOf 0 (standing base heads s at) ≡ none
+            → checkRows base heads s at ≡ accepted (standing base heads s at)
+        unfolding checkAscending checkService checkPackings
+        when-none e = rw (whole, good, light, e)
 
       -- the rows are rows
       rows-are : All (Row (base .n) (base .r)) (allRows (standing base heads s at))
@@ -207,21 +214,29 @@ module _ (base : Base) (heads : List LayerHead) (s : List ℕ) (at : ℕ) where
       to : checkRows base heads s at ≡ refused e → RowsRefused base heads s at e
       to q = go₁ (leb end (length s)) refl
         where
-          go₄ : length s ≡ rowsEnd base heads s at → firstBad (base .n) rows ≡ none → (o : Option ℕ)
-              → firstCrowdedOf 0 (standing base heads s at) ≡ o → RowsRefused base heads s at e
-          go₄ ends good (some i) p =
-              told (Crowded (at + i * base .r)) (when-crowded ends good p) q (
+          go₅ : length s ≡ rowsEnd base heads s at → firstBad (base .n) rows ≡ none → firstNaming (base .dark) rows ≡ none
+              → (o : Option ℕ) → firstCrowdedOf 0 (standing base heads s at) ≡ o → RowsRefused base heads s at e
+          go₅ ends good light (some i) p =
+              told (Crowded (at + i * base .r)) (when-crowded ends good light p) q (
                 ends,
                 good-iff-in-order (base .n) rows .0 good,
+                service-iff (base .dark) rows .0 light,
                 (i, first-crowded-of-meaning (base .n) (base .r) 0 (standing base heads s at) i (rows-are ends good) .0 p, refl),
               )
-          go₄ ends good none p =
-              absurd (let r = when-none ends good p in let z : _≡_ {A = ℕ} 0 1 = cc in omega arith)
+          go₅ ends good light none p =
+              absurd (let r = when-none ends good light p in let z : _≡_ {A = ℕ} 0 1 = cc in omega arith)
+
+          go₄ : length s ≡ rowsEnd base heads s at → firstBad (base .n) rows ≡ none → (o : Option ℕ)
+              → firstNaming (base .dark) rows ≡ o → RowsRefused base heads s at e
+          go₄ ends good (some i) p =
+              told (OutOfService (at + i * base .r)) (when-dark ends good p) q
+              (ends, good-iff-in-order (base .n) rows .0 good, (i, first-naming-meaning (base .dark) rows i .0 p, refl))
+          go₄ ends good none p = go₅ ends good p (firstCrowdedOf 0 (standing base heads s at)) refl
 
           go₃ : length s ≡ rowsEnd base heads s at → (o : Option ℕ) → firstBad (base .n) rows ≡ o → RowsRefused base heads s at e
           go₃ ends (some i) p =
               told (BadRow (at + i * base .r)) (when-bad ends p) q (ends, (i, first-bad-meaning (base .n) rows i .0 p, refl))
-          go₃ ends none p = go₄ ends p (firstCrowdedOf 0 (standing base heads s at)) refl
+          go₃ ends none p = go₄ ends p (firstNaming (base .dark) rows) refl
 
           go₂ : end ≤ length s → (b : Bool) → leb (length s) end ≡ b → RowsRefused base heads s at e
           go₂ k false p =
@@ -240,9 +255,12 @@ module _ (base : Base) (heads : List LayerHead) (s : List ℕ) (at : ℕ) where
       from (Trailing p) (h, is) = when-long h ∙ ap (λ p. refused (Trailing p)) (sym is)
       from (BadRow p) (ends, (i, f, is)) =
           when-bad ends (first-bad-meaning (base .n) rows i .1 f) ∙ ap (λ p. refused (BadRow p)) (sym is)
-      from (Crowded p) (ends, order, (i, f, is)) =
+      from (OutOfService p) (ends, order, (i, f, is)) =
+          when-dark ends (good-iff-in-order (base .n) rows .1 order) (first-naming-meaning (base .dark) rows i .1 f)
+          ∙ ap (λ p. refused (OutOfService p)) (sym is)
+      from (Crowded p) (ends, order, service, (i, f, is)) =
           let good = good-iff-in-order (base .n) rows .1 order in
-          when-crowded ends good
+          when-crowded ends good (service-iff (base .dark) rows .1 service)
           (first-crowded-of-meaning (base .n) (base .r) 0 (standing base heads s at) i (rows-are ends good) .1 f)
           ∙ ap (λ p. refused (Crowded p)) (sym is)
       from (Malformed p) h = absurd h
@@ -255,7 +273,6 @@ module _ (base : Base) (heads : List LayerHead) (s : List ℕ) (at : ℕ) where
       from (BadOrder p) h = absurd h
       from Unjoinable h = absurd h
       from BadWish h = absurd h
-      from (OutOfService p) h = absurd h
       from BadCounts h = absurd h
       from TooManySets h = absurd h
       from BadRounds h = absurd h

@@ -1,29 +1,22 @@
--- Request (b): "two files that differ only in such padding are both accepted or both refused". Heads and rows of two files
--- where the same numbers are read, in whatever forms, and then the same bytes stand: each step of the check agrees. Assumes
--- nothing.
+-- Request (b): "two files that differ only in such padding are both accepted or both refused". Heads of two files where the
+-- same numbers are read, in whatever forms, and then the same bytes stand: each step of reading them agrees. Assumes nothing.
 use Prim.Native.Nat.{ℕ, zero, suc, _+_, _*_, _-_, _≤_, _<_, min}
 use native.Mathlib.Omega.{arith}
 use native.Mathlib.Nat.{zero-add}
 use mathlib.Core.Path.{_≡_, refl, sym, _∙_, ap}
-use mathlib.Core.Bool.{Bool, true, false, _&&_}
+use mathlib.Core.Bool.{Bool, true, false, cond, _&&_}
 use mathlib.Core.List.{List, [], _∷_, _++_}
-use mathlib.Core.Option.{Option, none, some}
 use lib.ListN.{length, getD, drop, length-append, length-drop}
-use lib.Seq.{drop-append-seam}
+use lib.Seq.{drop-append-seam, drop-drop}
 use lib.Dec.{leb}
-use borrow.Author.Tests.{leb-true, leb-false, le-leb, lt-leb}
-use Rattle.refusal.specs.declared.Refusal.the-variants.{BadRow, Crowded}
 use Rattle.refusal.specs.Checked.{Checked}
 use Rattle.refusal.specs.Agree.{Agree, both-accepted, both-refused}
 use Rattle.refusal.proofs.Agree.{agree-bind, agree-require}
 use Rattle.number.specs.Numbers.{Forms, readNumber, readWithin}
 use Rattle.number.specs.declared.Reading.{Reading}
 use Rattle.number.proofs.Alike.{ReadAlike, readNumber-alike}
-use Rattle.packing.specs.Rows.{firstBad}
-use Rattle.layers.specs.Layers.{Layer, LayerHeads, BaseReading, allRows, sizes, leastSize, firstCrowdedOf, layersAt, refuseRow, isKind, readKind, readBase, readLayers, checkLength, checkEnd, checkAscending, checkPackings, checkRows}
+use Rattle.layers.specs.Layers.{LayerHeads, NodesReading, BaseReading, leastSize, isKind, listed, listNumbers, listSize, readKind, readNodes, readList, readDark, readBase, readLayers}
 use Rattle.layers.specs.declared.FileKind.{FileKind}
-use Rattle.layers.specs.declared.Base.{Base}
-use Rattle.layers.specs.declared.LayerHead.{LayerHead}
 use Rattle.layers.specs.declared.LayerLimits.{LayerLimits}
 use Rattle.layers.proofs.NumbersRead.{Reads, forms-reads}
 
@@ -117,12 +110,78 @@ module _ (s s′ : List ℕ) where
       agree-bind _ _ (readNumber-padded vs 0 0 p) λ n n′ r.
       agree-require _ _ _ _ _ _ (ap (isKind file) (r .value)) refl (both-accepted r)
 
--- What two readings of the kind, n and r give.
+-- What two readings of `taken` nodes give: the same nodes, and the numbers after them.
+record NodesPadded (taken : ℕ) (vs s s′ : List ℕ) (d d′ : NodesReading) : Type 0 where
+  nodes : d .nodes ≡ d′ .nodes
+  number : length (d .nodes) ≡ taken
+  after : Padded (drop taken vs) s s′ (d .next) (d′ .next)
+
+-- What two readings of the list give: the same nodes, as many as the first of the numbers says where there is one.
+record ListPadded (kind : ℕ) (vs s s′ : List ℕ) (d d′ : NodesReading) : Type 0 where
+  nodes : d .nodes ≡ d′ .nodes
+  size : 0 < length vs → length (listNumbers kind (d .nodes)) ≡ cond (listed kind) (suc (getD vs 0 0)) 0
+  after : Padded (drop (length (listNumbers kind (d .nodes))) vs) s s′ (d .next) (d′ .next)
+
+agree-imp : {A B : Type 0} {R Q : A → B → Type 0} {m : Checked A} {m′ : Checked B} → Agree R m m′
+    → ((a : A) (b : B) → R a b → Q a b) → Agree Q m m′
+agree-imp (both-accepted {a} {b} r) h = both-accepted (h a b r)
+agree-imp (both-refused e) h = both-refused e
+
+drop-one : (taken : ℕ) (vs : List ℕ) → drop taken (drop 1 vs) ≡ drop (suc taken) vs
+drop-one zero [] = refl
+drop-one (suc taken) [] = refl
+drop-one taken (v ∷ vs) = refl
+
+module _ (s s′ : List ℕ) where
+  readNodes-padded : (n left lo : ℕ) (vs : List ℕ) (at at′ : ℕ) → Padded vs s s′ at at′
+      → Agree (NodesPadded left vs s s′) (readNodes n left lo s at) (readNodes n left lo s′ at′)
+  unfolding readNodes
+  readNodes-padded n zero lo vs at at′ p = both-accepted (record { nodes = refl; number = refl; after = p })
+  readNodes-padded n (suc left) lo vs at at′ p =
+      agree-bind _ _ (readWithin-padded s s′ lo (n - 1) vs at at′ p) λ node node′ r₁.
+      rw
+      (r₁ .value)
+      (agree-bind _ _ (readNodes-padded n left (suc (node′ .value)) (drop 1 vs) (node .next) (node′ .next) (r₁ .after))
+      λ rest rest′ r₂.
+      both-accepted
+      (record {
+        nodes = ap (λ l. node′ .value ∷ l) (r₂ .nodes);
+        number = ap suc (r₂ .number);
+        after = rw (← drop-one left vs) (r₂ .after);
+      }))
+
+  readDark-padded : (kind n : ℕ) (vs : List ℕ) (at at′ : ℕ) → Padded vs s s′ at at′
+      → Agree (ListPadded kind vs s s′) (readDark kind n s at) (readDark kind n s′ at′)
+  unfolding readDark readList listNumbers
+  readDark-padded kind n vs at at′ p = go (listed kind) refl
+    where
+      go : (b : Bool) → listed kind ≡ b → Agree (ListPadded kind vs s s′) (readDark kind n s at) (readDark kind n s′ at′)
+      go false is =
+          let size : length (listNumbers kind []) ≡ cond (listed kind) (suc (getD vs 0 0)) 0 = rw is refl in
+          let after : Padded (drop (length (listNumbers kind [])) vs) s s′ at at′ = rw is p in
+          rw is (both-accepted (record { nodes = refl; size = λ some. size; after = after }))
+      go true is =
+          rw
+          is
+          (agree-bind _ _ (readWithin-padded s s′ 0 n vs at at′ p) λ count count′ r₁.
+          rw
+          (r₁ .value)
+          (agree-imp (readNodes-padded n (count′ .value) 0 (drop 1 vs) (count .next) (count′ .next) (r₁ .after)) λ d d′ r₂.
+          let numbers : length (listNumbers kind (d .nodes)) ≡ suc (count′ .value) = rw is (ap suc (r₂ .number)) in
+          let test : cond (listed kind) (suc (getD vs 0 0)) 0 ≡ suc (getD vs 0 0) = rw is refl in
+          record {
+            nodes = r₂ .nodes;
+            size = λ some. numbers ∙ ap suc (sym (r₁ .value) ∙ r₁ .first some) ∙ sym test;
+            after = rw (numbers, ← drop-one (count′ .value) vs) (r₂ .after);
+          }))
+
+-- What two readings of the kind, n, r and the list give.
 pub record BasePadded (vs s s′ : List ℕ) (b b′ : BaseReading) : Type 0 where
   pub kind : b .kind ≡ b′ .kind
   pub base : b .base ≡ b′ .base
   pub third : 2 < length vs → b .base .r ≡ getD vs 2 0
-  pub after : Padded (drop 3 vs) s s′ (b .next) (b′ .next)
+  pub size : 3 < length vs → length (listNumbers (b .kind) (b .base .dark)) ≡ listSize vs
+  pub after : Padded (drop (3 + length (listNumbers (b .kind) (b .base .dark))) vs) s s′ (b .next) (b′ .next)
 
 -- What two readings of the layers' numbers give: none of the same numbers is left.
 pub record HeadsPadded (s s′ : List ℕ) (h h′ : LayerHeads) : Type 0 where
@@ -136,6 +195,16 @@ third-of [] h few = absurd (omega arith)
 third-of (a ∷ []) h few = absurd (omega arith)
 third-of (a ∷ b ∷ []) h few = absurd (omega arith)
 third-of (a ∷ b ∷ c ∷ vs) h few = h (omega arith)
+
+-- how many the list has, by the first and the fourth
+size-of : (vs : List ℕ) {kind size : ℕ} → (0 < length vs → kind ≡ getD vs 0 0)
+    → (0 < length (drop 1 (drop 1 (drop 1 vs))) → size ≡ cond (listed kind) (suc (getD (drop 1 (drop 1 (drop 1 vs))) 0 0)) 0)
+    → 3 < length vs → size ≡ listSize vs
+size-of [] h k few = absurd (omega arith)
+size-of (a ∷ []) h k few = absurd (omega arith)
+size-of (a ∷ b ∷ []) h k few = absurd (omega arith)
+size-of (a ∷ b ∷ c ∷ []) h k few = absurd (omega arith)
+size-of (a ∷ b ∷ c ∷ d ∷ vs) h k few = k (omega arith) ∙ rw (h (omega arith)) refl
 
 after-third : (vs : List ℕ) → drop 1 (drop 1 (drop 1 vs)) ≡ drop 3 vs
 after-third [] = refl
@@ -154,13 +223,18 @@ module _ (s s′ : List ℕ) where
       (r₂ .value)
       (agree-bind _ _
       (readWithin-padded s s′ 2 (min 5 (n′ .value)) (drop 1 (drop 1 vs)) (n .next) (n′ .next) (r₂ .after)) λ r r′ r₃.
+      rw
+      (← r₁ .value)
+      (agree-bind _ _
+      (readDark-padded s s′ (first .value) (n′ .value) (drop 1 (drop 1 (drop 1 vs))) (r .next) (r′ .next) (r₃ .after)) λ d d′ r₄.
       both-accepted
       (record {
-        kind = r₁ .value;
-        base = λ i. record { n = n′ .value; r = r₃ .value i };
+        kind = refl;
+        base = λ i. record { n = n′ .value; r = r₃ .value i; dark = r₄ .nodes i };
         third = third-of vs (r₃ .first);
-        after = rw (← after-third vs) (r₃ .after);
-      }))
+        size = size-of vs (r₁ .first) (r₄ .size);
+        after = rw (← drop-drop (length (listNumbers (first .value) (d .nodes))) 3 vs, ← after-third vs) (r₄ .after);
+      })))
 
   -- The layers' numbers, two for each layer.
   pub readLayers-padded : (limits : LayerLimits) (left room : ℕ) (vs : List ℕ) (at at′ : ℕ) → length vs ≤ left * 2
@@ -185,52 +259,3 @@ module _ (s s′ : List ℕ) where
         heads = ap (λ heads. record { bound = bound′ .value; size = size′ .value } ∷ heads) (r₃ .heads);
         after = r₃ .after;
       }))
-
--- tests that say the same
-leb-same : (a b c d : ℕ) → (a ≤ b → c ≤ d) → (b < a → d < c) → leb a b ≡ leb c d
-leb-same a b c d h k = go (leb a b) refl
-  where
-    go : (t : Bool) → leb a b ≡ t → leb a b ≡ leb c d
-    go true e = e ∙ sym (le-leb c d (h (leb-true a b e)))
-    go false e = e ∙ sym (lt-leb c d (k (leb-false a b e)))
-
--- the same row found
-ascending-agree : (base : Base) (at at′ : ℕ) (rows : List (List ℕ))
-    → Agree (λ u u′. Unit) (checkAscending base at rows) (checkAscending base at′ rows)
-unfolding checkAscending
-ascending-agree base at at′ rows = go (firstBad (base .n) rows)
-  where
-    go : (found : Option ℕ) → Agree (λ u u′. Unit) (refuseRow BadRow (base .r) at found) (refuseRow BadRow (base .r) at′ found)
-    go none = both-accepted tt
-    go (some i) = both-refused refl
-
-packings-agree : (r at at′ : ℕ) (layers : List Layer)
-    → Agree (λ u u′. Unit) (checkPackings r at layers) (checkPackings r at′ layers)
-unfolding checkPackings
-packings-agree r at at′ layers = go (firstCrowdedOf 0 layers)
-  where
-    go : (found : Option ℕ) → Agree (λ u u′. Unit) (refuseRow Crowded r at found) (refuseRow Crowded r at′ found)
-    go none = both-accepted tt
-    go (some i) = both-refused refl
-
-module _ (s s′ : List ℕ) where
-  -- The rows: the same bytes to the end.
-  pub checkRows-padded : (base : Base) (heads : List LayerHead) (at at′ : ℕ) → Padded [] s s′ at at′
-      → Agree (λ layers layers′. layers ≡ layers′) (checkRows base heads s at) (checkRows base heads s′ at′)
-  unfolding checkRows checkLength checkEnd
-  checkRows-padded base heads at at′ p =
-      let size = sizes heads * base .r in
-      let layers = layersAt (base .r) heads (drop at′ s′) in
-      let here = padded-none p in
-      let long : length s - at ≡ length s′ - at′ = sym (length-drop at s) ∙ ap length here ∙ length-drop at′ s′ in
-      let inside : at ≤ length s = rw (p .reads) (p .inside) in
-      let inside′ : at′ ≤ length s′ = rw (p .reads′) (p .inside′) in
-      rw
-      here
-      (agree-require _ _ _ _ _ _
-      (leb-same (at + size) (length s) (at′ + size) (length s′) (λ h. omega arith) (λ h. omega arith)) refl
-      (agree-require _ _ _ _ _ _
-      (leb-same (length s) (at + size) (length s′) (at′ + size) (λ h. omega arith) (λ h. omega arith)) refl
-      (agree-bind _ _ (ascending-agree base at at′ (allRows layers)) λ u u′ t.
-      agree-bind _ _ (packings-agree (base .r) at at′ layers) λ u u′ t.
-      both-accepted refl)))

@@ -7,13 +7,27 @@ pub enum FileKind {
     Placement,
 }
 
-// What every file has after its kind: n nodes and r replicas.
+// The nodes out of service, in order: the first `count` entries; those after them are 0.
+pub struct Dark {
+    pub count: usize,
+    pub nodes: [usize; 255],
+}
+
+// What reading the list of these nodes gives, with the next place; the list is empty beside a refusal.
+pub struct DarkRead {
+    pub verdict: Verdict,
+    pub dark: Dark,
+    pub next: usize,
+}
+
+// What every file has after its kind: n nodes, r replicas, and the nodes out of service.
 pub struct Base {
     pub n: usize,
     pub r: usize,
+    pub dark: Dark,
 }
 
-// What reading the kind, n and r gives, with the next place; all numbers are 0 beside a refusal.
+// What reading the kind, n, r and the list gives, with the next place; all numbers are 0 beside a refusal.
 pub struct BaseRead {
     pub verdict: Verdict,
     pub kind: usize,

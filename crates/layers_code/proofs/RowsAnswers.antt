@@ -1,4 +1,4 @@
--- The answers of checking rows: 1 or 5 for their length, then 6 over all rows, then 7. Assumes nothing.
+-- The answers of checking rows: 1 or 5 for their length, then 6 over all rows, then 15, then 7. Assumes nothing.
 use Prim.Native.Nat.{ℕ, _+_, _*_, _≤_, _<_}
 use native.Mathlib.Nat.{mul-le-mul, le-of-lt, le-refl}
 use mathlib.Core.Path.{_≡_, refl, sym, _∙_}
@@ -19,8 +19,7 @@ use Rattle.refusal.proofs.Checked.{verdict-good, verdict-refused, refused-not-a
 use Rattle.packing.specs.Rows.{ascending, inOrder, rowsAt, firstBad}
 use Rattle.packing.proofs.Test.{good-iff-in-order}
 use Rattle.packing.proofs.RowsAt.{rowsAt-add}
-use Rattle.layers.specs.Layers.{Layer, sizes, allRows, layersAt, refuseRow, checkLength, checkEnd, checkAscending, checkPackings, checkRows}
-use Rattle.layers.specs.declared.Base.{Base}
+use Rattle.layers.specs.Layers.{Layer, Site, sizes, allRows, layersAt, refuseRow, checkLength, checkEnd, checkAscending, checkService, checkPackings, checkRows}
 use Rattle.layers.specs.declared.LayerHead.{LayerHead}
 use Rattle.layers.specs.Asked.{Ascending}
 
@@ -42,7 +41,7 @@ verdict-left (accepted u) a = refl
 verdict-left (refused e) a = refl
 
 -- rows of which none is bad ascend
-ascend : (base : Base) (at : ℕ) (rows : List (List ℕ)) {u : Unit} → checkAscending base at rows ≡ accepted u → Ascending rows
+ascend : (base : Site) (at : ℕ) (rows : List (List ℕ)) {u : Unit} → checkAscending base at rows ≡ accepted u → Ascending rows
 unfolding checkAscending
 ascend base at rows e =
     all-imp (λ row. T (inOrder (base .n) row)) (λ row. T (ascending 0 row)) (λ row t. and-left (ascending 0 row) _ t) rows
@@ -52,7 +51,7 @@ ascend base at rows e =
     none-found none e = refl
     none-found (some i) e = absurd (refused-not-accepted e)
 
-module _ (base : Base) (heads : List LayerHead) (s : List ℕ) (at rows : ℕ) (count : rows ≡ sizes heads) where
+module _ (base : Site) (heads : List LayerHead) (s : List ℕ) (at rows : ℕ) (count : rows ≡ sizes heads) where
   pub rows-short : length s < at + rows * base .r → Refused (Ended (length s)) ≡ verdict (checkRows base heads s at)
   unfolding checkLength checkRows
   rows-short h =
@@ -81,7 +80,8 @@ module _ (base : Base) (heads : List LayerHead) (s : List ℕ) (at rows : ℕ) (
 
     -- the length is right: what follows
     right : checkRows base heads s at
-        ≡ (checkAscending base at (allRows layers) >>= λ u. checkPackings (base .r) at layers >>= λ v. accepted layers)
+        ≡ (checkAscending base at (allRows layers)
+        >>= λ u. checkService base at (allRows layers) >>= λ v. checkPackings (base .r) at layers >>= λ w. accepted layers)
     unfolding layers checkLength checkEnd checkRows
     right =
         let e : at + sizes heads * base .r ≡ length s = rw (← count) ends in
@@ -95,10 +95,28 @@ module _ (base : Base) (heads : List LayerHead) (s : List ℕ) (at rows : ℕ) (
       unfolding layers
       rows-ordered = ascend base at (allRows layers) (verdict-good (checkAscending base at (allRows layers)) ordered good .1)
 
-      pub rows-left : {answer : Verdict} → answer ≡ verdict (checkPackings (base .r) at (layersAt (base .r) heads (drop at s)))
-          → answer ≡ verdict (checkRows base heads s at)
-      unfolding layers
-      rows-left a =
-          a
-          ∙ rw (right, verdict-good (checkAscending base at (allRows layers)) ordered good .1)
-          (verdict-left (checkPackings (base .r) at layers) layers)
+      module _ (service : Verdict) (says : service ≡ verdict (checkService base at (rowsAt (base .r) rows (drop at s)))) where
+        served : service ≡ verdict (checkService base at (allRows layers))
+        unfolding layers
+        served = says ∙ rw (count, allRows-layersAt (base .r) heads (drop at s))
+
+        pub rows-dark : {e : Refusal} → service ≡ Refused e → Refused e ≡ verdict (checkRows base heads s at)
+        rows-dark k =
+            rw (
+              right,
+              verdict-good (checkAscending base at (allRows layers)) ordered good .1,
+              verdict-refused (checkService base at (allRows layers)) served k,
+            )
+
+        pub rows-left : service ≡ Good → {answer : Verdict}
+            → answer ≡ verdict (checkPackings (base .r) at (layersAt (base .r) heads (drop at s)))
+            → answer ≡ verdict (checkRows base heads s at)
+        unfolding layers
+        rows-left light a =
+            a
+            ∙ rw (
+              right,
+              verdict-good (checkAscending base at (allRows layers)) ordered good .1,
+              verdict-good (checkService base at (allRows layers)) served light .1,
+            )
+            (verdict-left (checkPackings (base .r) at layers) layers)

@@ -1,7 +1,9 @@
-// Checking the rows of all layers, in steps: their length, their end, their order and the packing test.
+// Checking the rows of all layers, in steps: their length, their end, their order, the nodes out of service and the packing
+// test.
 mod ascending;
 mod packings;
 mod place;
+mod service;
 
 use ascending::check_ascending;
 use layers::Base;
@@ -9,11 +11,13 @@ use layers::LayerHead;
 use packings::check_packings;
 use refusal::Refusal;
 use refusal::Verdict;
+use service::check_service;
 ghost use mathlib.Core.Path.{_≡_};
 ghost use Prim.Native.Nat.{_≤_};
 ghost use lib.ListN.{length, take};
 ghost use Rattle.refusal.specs.Checked.{verdict};
 ghost use Rattle.layers.specs.Layers.{sizes, checkRows};
+ghost use Rattle.layers.specs.Answers.{siteOf, DarkFits};
 
 // How many rows the first layers have.
 fn count_rows(layers: usize, heads: [LayerHead; 5]) -> usize
@@ -29,7 +33,8 @@ fn count_rows(layers: usize, heads: [LayerHead; 5]) -> usize
     sum
 }
 
-// The rows of the layers, whose first row starts at `at`: good, or refusal 1 or 5 for their length, 6 over all of them, 7.
+// The rows of the layers, whose first row starts at `at`: good, or refusal 1 or 5 for their length, 6 over all
+// of them, 15, 7.
 pub fn check_rows(
     bytes: &[u8],
     at: usize,
@@ -39,7 +44,8 @@ pub fn check_rows(
 ) -> Verdict
     requires { ⌜ (layers ≤ base .r) × (base .r ≤ 5) × (at ≤ length (now bytes)) ⌝ }
     requires { ⌜ sizes (take layers heads) ≤ 4096 ⌝ }
-    ensures { λ answer. ⌜ answer ≡ verdict (checkRows base (take layers heads) (now (bytes .entry)) at) ⌝ }
+    requires { ⌜ DarkFits (base .dark) ⌝ }
+    ensures { λ answer. ⌜ answer ≡ verdict (checkRows (siteOf base) (take layers heads) (now (bytes .entry)) at) ⌝ }
 {
     let r = base.r;
     let rows = count_rows(layers, heads);
@@ -52,6 +58,10 @@ pub fn check_rows(
     }
     let order = check_ascending(bytes, at, base, rows);
     if let Verdict::Refused(e) = order {
+        return Verdict::Refused(e);
+    }
+    let service = check_service(bytes, at, base, rows);
+    if let Verdict::Refused(e) = service {
         return Verdict::Refused(e);
     }
     check_packings(bytes, at, r, layers, heads)

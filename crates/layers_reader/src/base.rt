@@ -1,6 +1,7 @@
-// Reading a file's kind, n and r.
+// Reading a file's kind, n, r and the nodes out of service.
 use layers::Base;
 use layers::BaseRead;
+use layers::Dark;
 use layers::FileKind;
 use number::NumberRead;
 use refusal::Refusal;
@@ -10,18 +11,32 @@ ghost use Rattle.refusal.specs.Checked.{refused};
 ghost use Rattle.number.specs.Answers.{numberRead};
 ghost use Rattle.layers.specs.Layers.{isKind, readKind, readBase};
 ghost use Rattle.layers.specs.Answers.{baseRead};
+ghost use Rattle.layers.specs.declared.FileKind.the-variants.{Pack};
+
+// Whether a pack may begin with this number.
+fn is_pack(first: usize) -> bool
+    ensures { λ t. ⌜ t ≡ isKind Pack first ⌝ }
+{
+    if first == 1 {
+        return true;
+    }
+    first == 4
+}
 
 // Whether such a file may begin with this number.
 fn is_kind(file: FileKind, first: usize) -> bool
     ensures { λ t. ⌜ t ≡ isKind file first ⌝ }
 {
     if let FileKind::Pack = file {
-        return first == 1;
+        return is_pack(first);
     }
     if first == 2 {
         return true;
     }
-    first == 3
+    if first == 3 {
+        return true;
+    }
+    first == 5
 }
 
 // The file's first number with the place after it, or refusal 1, 2 or 3.
@@ -46,12 +61,19 @@ fn refuse(e: Refusal) -> BaseRead
     BaseRead {
         verdict: Verdict::Refused(e),
         kind: 0,
-        base: Base { n: 0, r: 0 },
+        base: Base {
+            n: 0,
+            r: 0,
+            dark: Dark {
+                count: 0,
+                nodes: [0; 255],
+            },
+        },
         next: 0,
     }
 }
 
-// The kind, n and r of such a file with the place after them, or refusal 1, 2, 3 or 4.
+// The kind, n, r and the nodes out of service of such a file with the place after them, or refusal 1, 2, 3 or 4.
 pub fn read_base(bytes: &[u8], file: FileKind) -> BaseRead
     ensures { λ r. ⌜ r ≡ baseRead (readBase file (now (bytes .entry))) ⌝ }
 {
@@ -67,13 +89,20 @@ pub fn read_base(bytes: &[u8], file: FileKind) -> BaseRead
     let NumberRead::Value(r) = third else {
         return refuse(number_code::refusal_of(third));
     };
+    let list = dark_code::read_dark(bytes, r.next, kind.value, n.value);
+    let list_verdict = list.verdict;
+    if let Verdict::Refused(e) = list_verdict {
+        return refuse(e);
+    }
+    let dark = list.dark;
     BaseRead {
         verdict: Verdict::Good,
         kind: kind.value,
         base: Base {
             n: n.value,
             r: r.value,
+            dark,
         },
-        next: r.next,
+        next: list.next,
     }
 }

@@ -8,7 +8,7 @@ use Rattle.refusal.specs.declared.Refusal.the-variants.{Ended, ShortWork, Short
 use Rattle.number.specs.Numbers.{readGroups, readNumber, readWithin}
 use Rattle.packing.specs.Rows.{ascending, rowsAt, member, holds, together, subsets, crowded, firstCrowded, firstBad}
 use Rattle.packing.specs.SevenCabinets.{row245}
-use Rattle.layers.specs.Layers.{readKind, readBase, readLayers, layersAt, firstCrowdedOf, checkLength, checkEnd, checkAscending, checkPackings, checkRows}
+use Rattle.layers.specs.Layers.{names, firstNaming, readKind, readNodes, readList, readDark, readBase, readLayers, layersAt, firstCrowdedOf, checkLength, checkEnd, checkAscending, checkService, checkPackings, checkRows}
 use Rattle.pack.specs.Pack.{readPack, checkPack}
 use Rattle.pack.specs.SevenCabinets.{packBytes}
 use Rattle.placement.specs.Placement.{Placement}
@@ -42,6 +42,6 @@ pub wishes : (asks [] 0 1 0 0 ≡ refused BadWish)
     × (asks [] 4_096 4_096 0 0 ≡ refused (Ended 0))
     × (asks (packBytes row245) 4_096 4_096 0 0 ≡ refused (ShortWork 4_098))
     × (asks (packBytes row245) 4_096 1_500 0 0 ≡ refused (ShortWork 5_194))
-    × (asks (packBytes row245) 1_500 4_096 3_002 0 ≡ refused (ShortOutput 4_564))
-unfolding count every any firstWhere total flatten readGroups readNumber readWithin ascending rowsAt member holds together subsets crowded firstCrowded firstBad readKind readBase readLayers layersAt firstCrowdedOf checkLength checkEnd checkAscending checkPackings checkRows readPack checkPack packBytes hasBlock checkOrder checkBlocks checkWork checkOutput planPack plan grant checkWish planOperator
+    × (asks (packBytes row245) 1_500 4_096 3_002 0 ≡ refused (ShortOutput 4_948))
+unfolding count every any firstWhere total flatten readGroups readNumber readWithin ascending rowsAt member holds together subsets crowded firstCrowded firstBad names firstNaming readKind readNodes readList readDark readBase readLayers layersAt firstCrowdedOf checkLength checkEnd checkAscending checkService checkPackings checkRows readPack checkPack packBytes hasBlock checkOrder checkBlocks checkWork checkOutput planPack plan grant checkWish planOperator
 wishes = (refl, refl, refl, refl, refl, refl, refl, refl)

@@ -10,19 +10,32 @@ use Rattle.refusal.specs.Checked.{Checked, accepted, refused, mapAccepted}
 use Rattle.number.specs.Numbers.{readGroups, readNumber, readWithin}
 use Rattle.packing.specs.Rows.{ascending, rowsAt, member, holds, together, subsets, crowded, firstCrowded, firstBad}
 use Rattle.packing.specs.SevenCabinets.{row245}
-use Rattle.layers.specs.Layers.{headNumbers, readKind, readLayers, layersAt, firstCrowdedOf, readBase, checkLength, checkEnd, checkAscending, checkPackings, checkRows}
+use Rattle.layers.specs.Layers.{headNumbers, names, firstNaming, readKind, readNodes, readList, readDark, readLayers, layersAt, firstCrowdedOf, readBase, checkLength, checkEnd, checkAscending, checkService, checkPackings, checkRows}
+use Rattle.layers.specs.Answers.{nodesArray}
 use Rattle.pack.specs.Pack.{readPack, checkPack}
 use Rattle.pack.specs.Answers.{packChecked, packOutcome}
-use Rattle.pack.specs.SevenCabinets.{packBytes, sevenPack}
+use Rattle.pack.specs.SevenCabinets.{packBytes, listedBytes, sevenPack}
 
 -- "Its 36 bytes are accepted." "P's layer 1 with its last row 246: refusal 7, place 27 (row 146 shares 4 and 6 with it)."
 pub packs : (length (packBytes row245) ≡ 36)
     × (checkPack (packBytes row245) ≡ accepted sevenPack)
     × (packOutcome (packChecked (readPack (packBytes row245)))
-    ≡ result (7 ∷ 3 ∷ 9 ∷ 1 ∷ 2 ∷ 1 ∷ 7 ∷ 1 ∷ 0 ∷ 0 ∷ 0 ∷ 0 ∷ 0 ∷ []))
+    ≡ result (7 ∷ 3 ∷ 9 ∷ 1 ∷ 2 ∷ 1 ∷ 7 ∷ 1 ∷ 0 ∷ 0 ∷ 0 ∷ 0 ∷ 0 ∷ 0 ∷ []))
     × (packOutcome (packChecked (readPack (packBytes (2 ∷ 4 ∷ 6 ∷ [])))) ≡ refusal 7 27)
-unfolding count every any firstWhere total flatten readGroups readNumber readWithin ascending rowsAt member holds together subsets crowded firstCrowded firstBad readKind readLayers layersAt firstCrowdedOf checkLength checkEnd checkAscending checkPackings checkRows readBase readPack checkPack packBytes sevenPack headNumbers
+unfolding count every any firstWhere total flatten readGroups readNumber readWithin ascending rowsAt member holds together subsets crowded firstCrowded firstBad readKind readLayers layersAt firstCrowdedOf names firstNaming readNodes readList readDark checkLength checkEnd checkAscending checkService checkPackings checkRows readBase readPack checkPack packBytes sevenPack headNumbers nodesArray
 packs = (refl, refl, refl, refl)
+
+-- Request (h): P of kind 4 with an empty list is P; node 6 out of service is named by row 056 at byte 23, before a crowded row
+-- and after a bad one, at byte 35; all nodes of a pack without blocks may be out of service.
+pub listed-packs : (packOutcome (packChecked (readPack (listedBytes (0 ∷ []) row245)))
+    ≡ result (7 ∷ 3 ∷ 10 ∷ 1 ∷ 2 ∷ 1 ∷ 7 ∷ 1 ∷ 0 ∷ 0 ∷ 0 ∷ 0 ∷ 0 ∷ 0 ∷ []))
+    × (checkPack (listedBytes (0 ∷ []) row245) ≡ accepted sevenPack)
+    × (packOutcome (packChecked (readPack (listedBytes (1 ∷ 6 ∷ []) (2 ∷ 4 ∷ 6 ∷ [])))) ≡ refusal 15 23)
+    × (packOutcome (packChecked (readPack (listedBytes (1 ∷ 6 ∷ []) (2 ∷ 4 ∷ 7 ∷ [])))) ≡ refusal 6 35)
+    × (packOutcome (packChecked (readPack (4 ∷ 2 ∷ 2 ∷ 2 ∷ 0 ∷ 1 ∷ 1 ∷ 0 ∷ 1 ∷ 0 ∷ [])))
+    ≡ result (2 ∷ 2 ∷ 10 ∷ 1 ∷ 0 ∷ 1 ∷ 0 ∷ 0 ∷ 0 ∷ 0 ∷ 0 ∷ 0 ∷ 0 ∷ 2 ∷ 0 ∷ 1 ∷ []))
+unfolding count every any firstWhere total flatten readGroups readNumber readWithin ascending rowsAt member holds together subsets crowded firstCrowded firstBad readKind readLayers layersAt firstCrowdedOf names firstNaming readNodes readList readDark checkLength checkEnd checkAscending checkService checkPackings checkRows readBase readPack checkPack listedBytes sevenPack headNumbers nodesArray
+listed-packs = (refl, refl, refl, refl, refl)
 
 -- the nodes of a pack without blocks whose n has these bytes
 abbrev pub nodesOf : List ℕ → Checked ℕ
@@ -35,5 +48,5 @@ pub pack-edges : (nodesOf (255 ∷ 1 ∷ []) ≡ accepted 255)
     × (nodesOf (1 ∷ []) ≡ refused (OutsideLimits 1))
     × (checkPack (2 ∷ 7 ∷ []) ≡ refused WrongKind)
     × (checkPack (3 ∷ 7 ∷ []) ≡ refused WrongKind)
-unfolding count every any firstWhere total flatten readGroups readNumber readWithin firstBad readKind readLayers layersAt firstCrowdedOf checkLength checkEnd checkAscending checkPackings checkRows readBase readPack checkPack firstCrowded rowsAt
+unfolding count every any firstWhere total flatten readGroups readNumber readWithin firstBad readKind readLayers layersAt firstCrowdedOf names firstNaming readNodes readList readDark checkLength checkEnd checkAscending checkService checkPackings checkRows readBase readPack checkPack firstCrowded rowsAt
 pack-edges = (refl, refl, refl, refl, refl, refl)

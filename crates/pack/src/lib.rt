@@ -1,4 +1,5 @@
 // What checking a pack gives.
+use layers::Dark;
 use layers::LayerHead;
 use refusal::Refusal;
 
@@ -15,8 +16,10 @@ pub enum PackAnswer {
     Refused(Refusal),
 }
 
-// The answer, with mu and m of each layer below r; entries from r on are 0, and so are all beside a refusal.
+// The answer, with mu and m of each layer below r, and the nodes out of service; entries from r on are 0. Beside a refusal all
+// are 0, and the list is empty.
 pub struct PackCheck {
     pub answer: PackAnswer,
     pub layers: [LayerHead; 5],
+    pub dark: Dark,
 }

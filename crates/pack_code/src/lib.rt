@@ -1,4 +1,5 @@
 // Checking packs.
+use layers::Dark;
 use layers::FileKind;
 use layers::LayerHead;
 use layers::LayerLimits;
@@ -19,13 +20,17 @@ fn refuse(e: Refusal) -> PackCheck
     PackCheck {
         answer: PackAnswer::Refused(e),
         layers: [LayerHead { bound: 0, size: 0 }; 5],
+        dark: Dark {
+            count: 0,
+            nodes: [0; 255],
+        },
     }
 }
 
-// Checks a pack: n and r, the layers' numbers, then the blocks.
+// Checks a pack: n, r and the nodes out of service, the layers' numbers, then the blocks.
 //
-// Accepted exactly where the bytes are the file of a pack with document 01's limits, blocks in order and the packing of every
-// layer: `pack-accepted-iff` in `pack`.
+// Accepted exactly where the bytes are the file of a pack with document 01's limits, blocks in order that name no node out of service
+// and the packing of every layer: `pack-accepted-iff` in `pack`.
 pub fn check_pack(bytes: &[u8]) -> PackCheck
     ensures { λ check. ⌜ check ≡ packChecked (readPack (now (bytes .entry))) ⌝ }
 {
@@ -53,8 +58,10 @@ pub fn check_pack(bytes: &[u8]) -> PackCheck
     if let Verdict::Refused(e) = rows_verdict {
         return refuse(e);
     }
+    let dark = base.dark;
     PackCheck {
         answer: PackAnswer::Accepted(PackHead { n, r, first }),
         layers,
+        dark,
     }
 }

@@ -14,11 +14,10 @@ use Rattle.refusal.specs.Checked.{accepted}
 use Rattle.refusal.proofs.Checked.{accepted-injective, bind-elim, require-bind-accepted, mapAccepted-accepted}
 use Rattle.number.specs.Numbers.{Bytes, readWithin}
 use Rattle.number.proofs.Within.{read-of-readWithin, readWithin-accepted}
-use Rattle.layers.specs.Layers.{Located, sizes, allRows, headsOf, headNumbers, readBase, readLayers, checkRows}
+use Rattle.layers.specs.Layers.{Located, Site, sizes, allRows, headsOf, headNumbers, readBase, readLayers, checkRows}
 use Rattle.layers.specs.declared.FileKind.the-variants.{Placement as PlacementKind}
-use Rattle.layers.specs.declared.Base.{Base}
 use Rattle.layers.proofs.NumbersRead.{Reads, reads-append, reads-split}
-use Rattle.layers.proofs.Heads.{SizesFit, HeadsWithin, reads-of-readBase, readBase-accepted, fit-full}
+use Rattle.layers.proofs.Heads.{SizesFit, HeadsWithin, baseNumbers, held-of-readBase, readBase-accepted, fit-full}
 use Rattle.layers.proofs.Files.{FileRead, LayersHeld, file-read, read-file, held-of-layers, heads-accepted, rows-accepted}
 use Rattle.placement.proofs.Losses.{figureOf-le}
 use Rattle.placement.specs.Figure.{ruleOf, figureOf}
@@ -51,7 +50,7 @@ abbrev pub orderOf : Terms → Order
 orderOf t = record { s = t .s; k = t .k; b = t .b }
 
 -- "s; k; b; the figure F (0..b)": accepted exactly where they are read and within their limits
-pub reads-of-readTerms : (base : Base) (bytes : List ℕ) (at : ℕ) {order : TermsReading} → readTerms base bytes at ≡ accepted order
+pub reads-of-readTerms : (base : Site) (bytes : List ℕ) (at : ℕ) {order : TermsReading} → readTerms base bytes at ≡ accepted order
     → 2 ≤ base .n
     → Reads (termNumbers (order .terms)) bytes at (order .next) × OrderLimits (base .n) (base .r) (orderOf (order .terms))
 unfolding readTerms
@@ -81,7 +80,7 @@ reads-of-readTerms base bytes at e two =
 -- The numbers of a placement are read, with the place of F.
 terms-accepted : (p : Placement) (bytes : List ℕ) (at next : ℕ)
     → Reads (p .s ∷ p .k ∷ p .b ∷ p .figure ∷ []) bytes at next → PlacementLimits p → p .figure ≤ p .b
-    → (place : ℕ) × (readTerms (record { n = p .n; r = p .r }) bytes at
+    → (place : ℕ) × (readTerms (record { n = p .n; r = p .r; dark = p .dark }) bytes at
     ≡ accepted
     (record { terms = record { s = p .s; k = p .k; b = p .b; figure = p .figure; place = place }; next = next }))
 unfolding readTerms
@@ -111,8 +110,8 @@ read-of-placement bytes p first e =
     bind-elim (checkRows (head .base) (numbers .heads) bytes (numbers .next)) _ r₃ λ layers e₄ r₄.
     let formula = figureOf (ruleOf (head .kind)) (t .s) (t .k) (t .b) (headsOf layers) in
     let (test, same) = require-bind-accepted (eqb (t .figure) formula) (WrongFigure (t .place)) _ r₄ in
-    let (base-reads, base, kind) = reads-of-readBase PlacementKind bytes e₁ in
-    let (reads, limits) = reads-of-readTerms (head .base) bytes (head .next) e₂ (base .n-least) in
+    let held = held-of-readBase PlacementKind bytes e₁ in
+    let (reads, limits) = reads-of-readTerms (head .base) bytes (head .next) e₂ (held .limits .n-least) in
     let l = held-of-layers placementLayerLimits (head .base) (t .s) (t .b) bytes (order .next) e₃ e₄ in
     let w = l .within in
     subst
@@ -120,7 +119,7 @@ read-of-placement bytes p first e =
     (accepted-injective same) (
       record {
         reads =
-            reads-append (head .kind ∷ head .base .n ∷ head .base .r ∷ []) (t .s ∷ t .k ∷ t .b ∷ t .figure ∷ headNumbers (headsOf layers)) bytes 0 (head .next) (numbers .next) base-reads
+            reads-append (baseNumbers (head .kind) (head .base)) (t .s ∷ t .k ∷ t .b ∷ t .figure ∷ headNumbers (headsOf layers)) bytes 0 (head .next) (numbers .next) (held .reads)
             (reads-append (termNumbers t) (headNumbers (headsOf layers)) bytes (head .next) (order .next) (numbers .next) reads (l .reads));
         inside = l .inside;
         rest = l .rest;
@@ -128,14 +127,16 @@ read-of-placement bytes p first e =
       record {
         limits =
             record {
-              kind = kind;
-              base = base;
+              kind = held .kind;
+              base = held .limits;
+              dark = held .dark;
               order = limits;
               layer-each = sym (length-map layers _) ∙ w .layer-each;
               lambda-most = all-imp _ (λ layer. layer .bound ≤ 16_777_216) (λ layer h. h .1) layers (all-of-map _ _ layers (w .bounds));
               records-all = fit-full (t .s) (t .b) (sizes (headsOf layers)) (limits .s-least) (w .fit);
             };
         rows = l .rows;
+        in-service = l .in-service;
         packings = l .packings;
         formula = eqb-true (t .figure) formula test;
       },
@@ -146,11 +147,11 @@ pub placement-accepted : (bytes : List ℕ) (p : Placement) (first : ℕ) → Fi
 unfolding readPlacement checkFigure
 placement-accepted bytes p first f g =
     let l = g .limits in
-    let base : Base = record { n = p .n; r = p .r } in
+    let base : Site = record { n = p .n; r = p .r; dark = p .dark } in
     let heads = headNumbers (headsOf (p .layers)) in
     let terms = p .s ∷ p .k ∷ p .b ∷ p .figure ∷ [] in
     let most : p .figure ≤ p .b = rw (g .formula) (figureOf-le (ruleOf (p .kind)) (p .s) (p .k) (p .b) (headsOf (p .layers))) in
-    let (at₁, reads₁, after₁) = reads-split (p .kind ∷ p .n ∷ p .r ∷ []) (p .s ∷ p .k ∷ p .b ∷ p .figure ∷ heads) bytes 0 first (f .reads) in
+    let (at₁, reads₁, after₁) = reads-split (baseNumbers (p .kind) base) (p .s ∷ p .k ∷ p .b ∷ p .figure ∷ heads) bytes 0 first (f .reads) in
     let (at₂, reads₂, reads₃) = reads-split terms heads bytes at₁ first after₁ in
     let (place, terms-read) = terms-accepted p bytes at₁ at₂ reads₂ l most in
     let layers : LayersHeld placementLayerLimits base (p .s) (p .b) bytes at₂ first (p .layers) = record {
@@ -159,10 +160,11 @@ placement-accepted bytes p first f g =
       inside = f .inside;
       rest = f .rest;
       rows = g .rows;
+      in-service = g .in-service;
       packings = g .packings;
     } in
     rw (
-      readBase-accepted PlacementKind (p .kind) (p .n) (p .r) bytes at₁ reads₁ (l .kind) (l .base),
+      readBase-accepted PlacementKind (p .kind) base bytes at₁ reads₁ (l .kind) (l .base) (l .dark),
       terms-read,
       heads-accepted placementLayerLimits base (p .s) (p .b) bytes at₂ layers,
       rows-accepted placementLayerLimits base (p .s) (p .b) bytes at₂ layers,
@@ -174,8 +176,8 @@ pub rows-stand : (bytes : List ℕ) (file : Located Placement) → readPlacement
     → (file .first ≤ length bytes) × (drop (file .first) bytes ≡ flatten (allRows (file .content .layers)))
 rows-stand bytes file e = let f = read-of-placement bytes (file .content) (file .first) e .0 in (f .inside, f .rest)
 
--- Demand 2: the check accepts exactly the files of placements within limits, with rows in order, a packing in every layer
--- and the figure of the formula, and its result is that placement.
+-- Demand 2: the check accepts exactly the files of placements within limits, with rows in order that name no node out of
+-- service, a packing in every layer and the figure of the formula, and its result is that placement.
 pub placement-accepted-iff : (bytes : List ℕ) (p : Placement) → Bytes bytes
     → (checkPlacement bytes ≡ accepted p) ↔ (PlacementFile p bytes × GoodPlacement p)
 unfolding checkPlacement

@@ -2,13 +2,17 @@
 use Prim.Native.Nat.{ℕ}
 use native.Mathlib.Omega.{arith}
 use mathlib.Core.Path.{_≡_, refl, ap}
+use mathlib.Core.List.{List}
 use Rattle.refusal.specs.declared.Refusal.{Refusal}
+use Rattle.refusal.specs.Refusals.{result}
 use Rattle.refusal.specs.declared.Verdict.the-variants.{Good, Refused}
 use Rattle.refusal.specs.Checked.{Checked, accepted, refused}
 use Rattle.layers.specs.Layers.{Located, headsOf}
 use Rattle.layers.specs.Answers.{fiveHeads}
-use Rattle.placement.specs.Placement.{Placement, TermsReading}
-use Rattle.placement.specs.Answers.{termsRead, placementHead, placementChecked}
+use Rattle.layers.proofs.Listing.{dark-count, darkList-darkOf}
+use Rattle.placement.specs.Placement.{Placement, TermsReading, readPlacement}
+use Rattle.placement.proofs.Accepted.{read-of-placement}
+use Rattle.placement.specs.Answers.{termsRead, placementHead, placementChecked, placementValues, placementOutcome}
 use Rattle.placement.specs.declared.TermsRead.{TermsRead}
 use Rattle.placement.specs.declared.PlacementHead.{PlacementHead}
 use Rattle.placement.specs.declared.PlacementCheck.{PlacementCheck}
@@ -30,6 +34,15 @@ pub check-refused : (m : Checked (Located Placement)) {check : PlacementCheck} {
     → check .answer ≡ NotAccepted e → m ≡ refused e
 check-refused (accepted file) is why = let v = ap (λ c. c .answer) is in cc
 check-refused (refused e) is why = let v = ap (λ c. c .answer) is in cc
+
+-- What the checker's answer says of an accepted placement: its values, the list among them, which the code's array holds whole.
+pub placement-told : (bytes : List ℕ) (file : Located Placement) → readPlacement bytes ≡ accepted file
+    → placementOutcome (placementChecked (accepted file)) ≡ result (placementValues file)
+placement-told bytes file e =
+    let l = read-of-placement bytes (file .content) (file .first) e .1 .limits in
+    let n-most = l .base .n-most in
+    let count = dark-count (file .content .n) (file .content .dark) (l .dark .ordered) in
+    rw (darkList-darkOf (file .content .dark) (omega arith))
 
 -- the file that an answer accepts: its numbers, and those of its layers
 pub record AnswerOf (m : Checked (Located Placement)) (check : PlacementCheck) (head : PlacementHead) : Type 0 where

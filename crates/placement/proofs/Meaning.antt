@@ -33,14 +33,14 @@ module _ (s : List ℕ) {head : BaseReading} {order : TermsReading} {numbers : L
   rows-good a =
       let taken = taken-of-checkRows (head .base) (numbers .heads) s (numbers .next) a in
       let same = taken .taken in
-      ((taken .ends, rw same (taken .rows), rw same (taken .packings)), taken-heads (head .base) (numbers .heads) s (numbers .next) taken)
+      ((taken .ends, rw same (taken .rows), rw same (taken .in-service), rw same (taken .packings)), taken-heads (head .base) (numbers .heads) s (numbers .next) taken)
 
   good-rows : RowsGood (head .base) (numbers .heads) s (numbers .next)
       → rowsChecked ≡ accepted (standing (head .base) (numbers .heads) s (numbers .next))
   unfolding rowsChecked
-  good-rows (ends, rows, packings) =
+  good-rows (ends, rows, service, packings) =
       checkRows-accepted (head .base) (numbers .heads) s (numbers .next)
-      (record { ends = ends; taken = refl; rows = rows; packings = packings })
+      (record { ends = ends; taken = refl; rows = rows; in-service = service; packings = packings })
 
   -- what follows the rows
   rest : List Layer → Checked Unit

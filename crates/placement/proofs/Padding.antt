@@ -2,20 +2,22 @@
 -- nothing.
 use Prim.Native.Nat.{ℕ, _+_, _*_, _-_, _≤_, _<_}
 use native.Mathlib.Omega.{arith}
-use mathlib.Core.Path.{_≡_, refl}
+use mathlib.Core.Path.{_≡_, refl, _∙_, ap}
 use mathlib.Core.Bool.{Bool, true, false}
 use mathlib.Core.List.{List, [], _∷_}
 use lib.ListN.{length, getD, drop, length-drop}
-use lib.Dec.{eqb}
+use lib.Seq.{getD-drop}
+use lib.Dec.{leb, eqb}
+use borrow.Author.Tests.{leb-true, leb-false}
 use Rattle.refusal.specs.declared.Refusal.the-variants.{WrongFigure}
 use Rattle.refusal.specs.Checked.{require}
 use Rattle.refusal.specs.Agree.{Agree, both-accepted, both-refused}
 use Rattle.refusal.proofs.Agree.{agree-bind}
-use Rattle.layers.specs.Layers.{Layer, headsOf, readLayers}
+use Rattle.layers.specs.Layers.{Layer, Site, headsOf, listNumbers, listSize, readLayers}
 use Rattle.layers.specs.declared.FileKind.the-variants.{Placement as PlacementKind}
-use Rattle.layers.specs.declared.Base.{Base}
 use Rattle.layers.specs.declared.LayerHead.{LayerHead}
-use Rattle.layers.proofs.Padding.{Padded, HeadsPadded, readWithin-padded, readBase-padded, readLayers-padded, checkRows-padded}
+use Rattle.layers.proofs.Padding.{Padded, HeadsPadded, readWithin-padded, readBase-padded, readLayers-padded}
+use Rattle.layers.proofs.RowsPadding.{checkRows-padded}
 use Rattle.placement.specs.Figure.{ruleOf, figureOf}
 use Rattle.placement.specs.declared.Terms.{Terms}
 use Rattle.placement.specs.Placement.{TermsReading, placementLayerLimits, placementOf, readTerms, checkFigure, readPlacement}
@@ -40,7 +42,7 @@ after-fourth (a ∷ b ∷ []) = refl
 after-fourth (a ∷ b ∷ c ∷ []) = refl
 after-fourth (a ∷ b ∷ c ∷ d ∷ vs) = refl
 
-readTerms-padded : (base : Base) (vs bytes bytes′ : List ℕ) (at at′ : ℕ) → Padded vs bytes bytes′ at at′
+readTerms-padded : (base : Site) (vs bytes bytes′ : List ℕ) (at at′ : ℕ) → Padded vs bytes bytes′ at at′
     → Agree (TermsPadded vs bytes bytes′) (readTerms base bytes at) (readTerms base bytes′ at′)
 unfolding readTerms
 readTerms-padded base vs bytes bytes′ at at′ p =
@@ -62,16 +64,23 @@ readTerms-padded base vs bytes bytes′ at at′ p =
       after = rw (← after-fourth vs) (r₄ .after);
     })))
 
--- after seven numbers at most two for each of s layers are left
-layers-left : (vs : List ℕ) (s : ℕ) → length vs ≤ 7 + 2 * getD vs 3 0 → (0 < length (drop 3 vs) → s ≡ getD (drop 3 vs) 0 0)
-    → length (drop 4 (drop 3 vs)) ≤ s * 2
-layers-left [] s most is = omega arith
-layers-left (a ∷ []) s most is = omega arith
-layers-left (a ∷ b ∷ []) s most is = omega arith
-layers-left (a ∷ b ∷ c ∷ []) s most is = omega arith
-layers-left (a ∷ b ∷ c ∷ d ∷ vs) s most is =
-    let same = is (omega arith) in
-    rw (length-drop 3 vs) (omega arith)
+-- after seven numbers and the list at most two for each of s layers are left
+layers-left : (vs : List ℕ) (s list : ℕ) → length vs ≤ 7 + listSize vs + 2 * getD vs (3 + listSize vs) 0
+    → (3 < length vs → list ≡ listSize vs)
+    → (0 < length (drop (3 + list) vs) → s ≡ getD (drop (3 + list) vs) 0 0)
+    → length (drop 4 (drop (3 + list) vs)) ≤ s * 2
+layers-left vs s list most size is =
+    rw (length-drop 4 (drop (3 + list) vs), length-drop (3 + list) vs) (go (leb (length vs) (3 + list)) refl)
+  where
+    go : (b : Bool) → leb (length vs) (3 + list) ≡ b → length vs - (3 + list) - 4 ≤ s * 2
+    go true e = let few = leb-true (length vs) (3 + list) e in omega arith
+    go false e =
+        let many = leb-false (length vs) (3 + list) e in
+        let list-is = size (omega arith) in
+        let s-is = is (rw (length-drop (3 + list) vs) (omega arith)) ∙ getD-drop (3 + list) vs 0 0 in
+        let place : 3 + list + 0 ≡ 3 + listSize vs = omega arith in
+        let s-there : s ≡ getD vs (3 + listSize vs) 0 = s-is ∙ ap (λ i. getD vs i 0) place in
+        omega arith
 
 module _ (kind : ℕ) {terms terms′ : Terms} (same : SameTerms terms terms′) where
   -- the figure by the same numbers
@@ -87,26 +96,27 @@ module _ (kind : ℕ) {terms terms′ : Terms} (same : SameTerms terms terms′)
       go true = both-accepted tt
       go false = both-refused refl
 
-  same-placement : (base : Base) (layers : List Layer) → placementOf kind base terms layers ≡ placementOf kind base terms′ layers
+  same-placement : (base : Site) (layers : List Layer) → placementOf kind base terms layers ≡ placementOf kind base terms′ layers
   same-placement base layers = rw (same .s-same, same .k-same, same .b-same, same .figure-same)
 
--- The head has 7 + 2s numbers: where the first of them are the same, and the same bytes follow them, so is the answer.
-pub readPlacement-padded : (vs bytes bytes′ : List ℕ) → length vs ≤ 7 + 2 * getD vs 3 0 → Padded vs bytes bytes′ 0 0
+-- The head has 7 + 2s numbers, and those of the list: where the first of them are the same, and the same bytes follow them, so is the answer.
+pub readPlacement-padded : (vs bytes bytes′ : List ℕ) → length vs ≤ 7 + listSize vs + 2 * getD vs (3 + listSize vs) 0 → Padded vs bytes bytes′ 0 0
     → Agree (λ file file′. file .content ≡ file′ .content) (readPlacement bytes) (readPlacement bytes′)
 unfolding readPlacement
 readPlacement-padded vs bytes bytes′ most p =
     agree-bind _ _ (readBase-padded bytes bytes′ PlacementKind vs p) λ head head′ r₁.
+    let list = length (listNumbers (head .kind) (head .base .dark)) in
     rw
     (r₁ .kind, r₁ .base)
-    (agree-bind _ _ (readTerms-padded (head′ .base) (drop 3 vs) bytes bytes′ (head .next) (head′ .next) (r₁ .after))
+    (agree-bind _ _ (readTerms-padded (head′ .base) (drop (3 + list) vs) bytes bytes′ (head .next) (head′ .next) (r₁ .after))
     λ order order′ r₂.
-    let left = layers-left vs (order .terms .s) most (r₂ .first) in
+    let left = layers-left vs (order .terms .s) list most (r₁ .size) (r₂ .first) in
     let layers-agree : Agree (HeadsPadded bytes bytes′)
     (readLayers placementLayerLimits (order .terms .s) (order .terms .b) bytes (order .next))
     (readLayers placementLayerLimits (order′ .terms .s) (order′ .terms .b) bytes′ (order′ .next)) =
     rw
     (← r₂ .same .s-same, ← r₂ .same .b-same)
-    (readLayers-padded bytes bytes′ placementLayerLimits (order .terms .s) (order .terms .b) (drop 4 (drop 3 vs))
+    (readLayers-padded bytes bytes′ placementLayerLimits (order .terms .s) (order .terms .b) (drop 4 (drop (3 + list) vs))
     (order .next) (order′ .next) left (r₂ .after)) in
     agree-bind _ _ layers-agree λ numbers numbers′ r₃.
     rw

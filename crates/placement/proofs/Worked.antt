@@ -1,7 +1,7 @@
--- Document 01's placement of nine records, as kinds 2 and 3, and losses worked by hand. Assumes nothing.
+-- Document 01's placement of nine records, as kinds 2, 3 and 5, and losses worked by hand. Assumes nothing.
 use mathlib.Core.Path.{_≡_, refl}
 use mathlib.Core.List.{[], _∷_, flatten}
-use lib.ListN.{length}
+use lib.ListN.{length, take}
 use Rattle.lists.specs.Lists.{count, every, any, firstWhere, total}
 use Rattle.refusal.specs.Refusals.{result, refusal}
 use Rattle.refusal.specs.Checked.{accepted}
@@ -9,45 +9,60 @@ use Rattle.binomial.specs.Choose.{choose}
 use Rattle.number.specs.Numbers.{readGroups, readNumber, readWithin}
 use Rattle.packing.specs.Floors.{floorsDown}
 use Rattle.packing.specs.Rows.{ascending, rowsAt, member, holds, together, subsets, crowded, firstCrowded, firstBad}
-use Rattle.layers.specs.Layers.{headNumbers, readKind, readLayers, layersAt, firstCrowdedOf, readBase, checkLength, checkEnd, checkAscending, checkPackings, checkRows}
+use Rattle.layers.specs.Layers.{headNumbers, names, firstNaming, readKind, readNodes, readList, readDark, readLayers, layersAt, firstCrowdedOf, readBase, checkLength, checkEnd, checkAscending, checkService, checkPackings, checkRows}
+use Rattle.layers.specs.Answers.{nodesArray}
 use Rattle.placement.specs.Figure.{lostBy, loss, losses, figureOf}
 use Rattle.placement.specs.declared.Rule.the-variants.{OneFloor, NestedFloors}
 use Rattle.placement.specs.Placement.{readTerms, checkFigure, readPlacement, checkPlacement}
 use Rattle.placement.specs.Answers.{placementChecked, placementOutcome}
-use Rattle.placement.specs.SevenCabinets.{placementFile, sevenPlacement, sevenRecords}
+use Rattle.placement.specs.SevenCabinets.{placementFile, listedFile, sevenPlacement, sevenRecords}
 
 -- the 38 bytes are accepted with figure 5 and, at the figure's place 6, refused with another
 pub placements : (length (placementFile 2 5) ≡ 38)
     × (checkPlacement (placementFile 2 5) ≡ accepted (sevenPlacement 2))
     × (placementOutcome (placementChecked (readPlacement (placementFile 2 5)))
-    ≡ result (2 ∷ 7 ∷ 3 ∷ 2 ∷ 3 ∷ 9 ∷ 5 ∷ 11 ∷ 1 ∷ 2 ∷ 1 ∷ 7 ∷ 0 ∷ 0 ∷ 0 ∷ 0 ∷ 0 ∷ 0 ∷ []))
+    ≡ result (2 ∷ 7 ∷ 3 ∷ 2 ∷ 3 ∷ 9 ∷ 5 ∷ 11 ∷ 1 ∷ 2 ∷ 1 ∷ 7 ∷ 0 ∷ 0 ∷ 0 ∷ 0 ∷ 0 ∷ 0 ∷ 0 ∷ []))
     × (placementOutcome (placementChecked (readPlacement (placementFile 2 4))) ≡ refusal 8 6)
-unfolding count every any firstWhere total flatten choose floorsDown readGroups readNumber readWithin ascending rowsAt member holds together subsets crowded firstCrowded firstBad readKind readLayers layersAt firstCrowdedOf readBase checkLength checkEnd checkAscending checkPackings checkRows lostBy loss losses figureOf readTerms checkFigure readPlacement checkPlacement placementFile sevenPlacement headNumbers
+unfolding count every any firstWhere total flatten choose floorsDown readGroups readNumber readWithin ascending rowsAt member holds together subsets crowded firstCrowded firstBad readKind readLayers layersAt firstCrowdedOf names firstNaming readNodes readList readDark readBase checkLength checkEnd checkAscending checkService checkPackings checkRows lostBy loss losses figureOf readTerms checkFigure readPlacement checkPlacement placementFile sevenPlacement headNumbers nodesArray
 placements = (refl, refl, refl, refl)
 
--- Request (d): "document 01's 38 bytes then begin with 3"; any first number but 2 and 3 is refused
+-- Request (d): "document 01's 38 bytes then begin with 3"; any first number but 2, 3 and 5 is refused
 pub placements-of-kind-3 : (checkPlacement (placementFile 3 5) ≡ accepted (sevenPlacement 3))
     × (placementOutcome (placementChecked (readPlacement (placementFile 3 5)))
-    ≡ result (3 ∷ 7 ∷ 3 ∷ 2 ∷ 3 ∷ 9 ∷ 5 ∷ 11 ∷ 1 ∷ 2 ∷ 1 ∷ 7 ∷ 0 ∷ 0 ∷ 0 ∷ 0 ∷ 0 ∷ 0 ∷ []))
+    ≡ result (3 ∷ 7 ∷ 3 ∷ 2 ∷ 3 ∷ 9 ∷ 5 ∷ 11 ∷ 1 ∷ 2 ∷ 1 ∷ 7 ∷ 0 ∷ 0 ∷ 0 ∷ 0 ∷ 0 ∷ 0 ∷ 0 ∷ []))
     × (placementOutcome (placementChecked (readPlacement (placementFile 3 4))) ≡ refusal 8 6)
     × (placementOutcome (placementChecked (readPlacement (placementFile 1 5))) ≡ refusal 3 0)
     × (placementOutcome (placementChecked (readPlacement (placementFile 4 5))) ≡ refusal 3 0)
-unfolding count every any firstWhere total flatten choose floorsDown readGroups readNumber readWithin ascending rowsAt member holds together subsets crowded firstCrowded firstBad readKind readLayers layersAt firstCrowdedOf readBase checkLength checkEnd checkAscending checkPackings checkRows lostBy loss losses figureOf readTerms checkFigure readPlacement checkPlacement placementFile sevenPlacement headNumbers
+unfolding count every any firstWhere total flatten choose floorsDown readGroups readNumber readWithin ascending rowsAt member holds together subsets crowded firstCrowded firstBad readKind readLayers layersAt firstCrowdedOf names firstNaming readNodes readList readDark readBase checkLength checkEnd checkAscending checkService checkPackings checkRows lostBy loss losses figureOf readTerms checkFigure readPlacement checkPlacement placementFile sevenPlacement headNumbers nodesArray
 placements-of-kind-3 = (refl, refl, refl, refl, refl)
+
+-- Request (h): of kind 5 they are 39 bytes that begin 5 7 3 0 2, with the figure of kind 3. Node 6 out of service is named by row
+-- 056 at byte 25; a placement of kind 5 without its list is refused.
+pub placements-of-kind-5 : (length (listedFile (0 ∷ []) 5) ≡ 39)
+    × (checkPlacement (listedFile (0 ∷ []) 5) ≡ accepted (sevenPlacement 5))
+    × (placementOutcome (placementChecked (readPlacement (listedFile (0 ∷ []) 5)))
+    ≡ result (5 ∷ 7 ∷ 3 ∷ 2 ∷ 3 ∷ 9 ∷ 5 ∷ 12 ∷ 1 ∷ 2 ∷ 1 ∷ 7 ∷ 0 ∷ 0 ∷ 0 ∷ 0 ∷ 0 ∷ 0 ∷ 0 ∷ []))
+    × (placementOutcome (placementChecked (readPlacement (listedFile (0 ∷ []) 4))) ≡ refusal 8 7)
+    × (placementOutcome (placementChecked (readPlacement (listedFile (1 ∷ 6 ∷ []) 4))) ≡ refusal 15 25)
+    × (placementOutcome (placementChecked (readPlacement (listedFile (2 ∷ 6 ∷ 6 ∷ []) 5))) ≡ refusal 4 5)
+    × (placementOutcome (placementChecked (readPlacement (placementFile 5 5))) ≡ refusal 4 5)
+    × (take 5 (listedFile (0 ∷ []) 5) ≡ 5 ∷ 7 ∷ 3 ∷ 0 ∷ 2 ∷ [])
+unfolding count every any firstWhere total flatten choose floorsDown readGroups readNumber readWithin ascending rowsAt member holds together subsets crowded firstCrowded firstBad readKind readLayers layersAt firstCrowdedOf names firstNaming readNodes readList readDark readBase checkLength checkEnd checkAscending checkService checkPackings checkRows lostBy loss losses figureOf readTerms checkFigure readPlacement checkPlacement placementFile listedFile sevenPlacement headNumbers nodesArray
+placements-of-kind-5 = (refl, refl, refl, refl, refl, refl, refl, refl)
 
 -- their first row stands at byte 11
 pub placement-located : readPlacement (placementFile 3 5) ≡ accepted (record { content = sevenPlacement 3; first = 11 })
-unfolding count every any firstWhere total flatten choose floorsDown readGroups readNumber readWithin ascending rowsAt member holds together subsets crowded firstCrowded firstBad readKind readLayers layersAt firstCrowdedOf readBase checkLength checkEnd checkAscending checkPackings checkRows lostBy loss losses figureOf readTerms checkFigure readPlacement placementFile sevenPlacement
+unfolding count every any firstWhere total flatten choose floorsDown readGroups readNumber readWithin ascending rowsAt member holds together subsets crowded firstCrowded firstBad readKind readLayers layersAt firstCrowdedOf names firstNaming readNodes readList readDark readBase checkLength checkEnd checkAscending checkService checkPackings checkRows lostBy loss losses figureOf readTerms checkFigure readPlacement placementFile sevenPlacement
 placement-located = refl
 
 -- Request (d): "Document 01's pack with s 3, k 4, b 7 then has figure 6 where it had 5", the same rows as kinds 3 and 2
 pub same-rows : (placementOutcome (placementChecked (readPlacement (sevenRecords 2 5)))
-    ≡ result (2 ∷ 7 ∷ 3 ∷ 3 ∷ 4 ∷ 7 ∷ 5 ∷ 13 ∷ 0 ∷ 0 ∷ 1 ∷ 7 ∷ 0 ∷ 0 ∷ 0 ∷ 0 ∷ 0 ∷ 0 ∷ []))
+    ≡ result (2 ∷ 7 ∷ 3 ∷ 3 ∷ 4 ∷ 7 ∷ 5 ∷ 13 ∷ 0 ∷ 0 ∷ 1 ∷ 7 ∷ 0 ∷ 0 ∷ 0 ∷ 0 ∷ 0 ∷ 0 ∷ 0 ∷ []))
     × (placementOutcome (placementChecked (readPlacement (sevenRecords 3 6)))
-    ≡ result (3 ∷ 7 ∷ 3 ∷ 3 ∷ 4 ∷ 7 ∷ 6 ∷ 13 ∷ 0 ∷ 0 ∷ 1 ∷ 7 ∷ 0 ∷ 0 ∷ 0 ∷ 0 ∷ 0 ∷ 0 ∷ []))
+    ≡ result (3 ∷ 7 ∷ 3 ∷ 3 ∷ 4 ∷ 7 ∷ 6 ∷ 13 ∷ 0 ∷ 0 ∷ 1 ∷ 7 ∷ 0 ∷ 0 ∷ 0 ∷ 0 ∷ 0 ∷ 0 ∷ 0 ∷ []))
     × (placementOutcome (placementChecked (readPlacement (sevenRecords 2 6))) ≡ refusal 8 6)
     × (placementOutcome (placementChecked (readPlacement (sevenRecords 3 5))) ≡ refusal 8 6)
-unfolding count every any firstWhere total flatten choose floorsDown readGroups readNumber readWithin ascending rowsAt member holds together subsets crowded firstCrowded firstBad readKind readLayers layersAt firstCrowdedOf readBase checkLength checkEnd checkAscending checkPackings checkRows lostBy loss losses figureOf readTerms checkFigure readPlacement sevenRecords headNumbers
+unfolding count every any firstWhere total flatten choose floorsDown readGroups readNumber readWithin ascending rowsAt member holds together subsets crowded firstCrowded firstBad readKind readLayers layersAt firstCrowdedOf names firstNaming readNodes readList readDark readBase checkLength checkEnd checkAscending checkService checkPackings checkRows lostBy loss losses figureOf readTerms checkFigure readPlacement sevenRecords headNumbers nodesArray
 same-rows = (refl, refl, refl, refl)
 
 -- s 3, k 5: the losses 5/3 and 10/3 are 1 and 3, though their sum is 5. s 2, k 3: of 2 rows with lambda 3, which 9/2

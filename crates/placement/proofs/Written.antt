@@ -1,17 +1,18 @@
--- A good placement's bytes are its file, and at most 64 of them stand before the rows. Assumes nothing.
+-- A good placement's bytes are its file, and at most 448 of them stand before the rows. Assumes nothing.
 use Prim.Native.Nat.{_+_, _*_, _≤_, _<_}
 use native.Mathlib.Omega.{arith}
 use mathlib.Core.Path.{_≡_, refl, sym, _∙_, ap}
 use mathlib.Core.Logic.{⊎-elim}
-use mathlib.Core.List.{[], _++_, flatten, append-nil}
+use mathlib.Core.List.{[], _∷_, _++_, flatten, append-nil}
 use lib.ListN.{length, length-append}
 use Rattle.lists.specs.Lists.{All}
 use Rattle.lists.proofs.Alls.{all-append, all-imp, all-flatten, length-flatten}
 use Rattle.number.specs.Numbers.{Bytes, largestNumber, formsOf}
 use Rattle.number.proofs.Laws.{numberBytes-length-one, numberBytes-length-le-two}
-use Rattle.number.proofs.Forms.{forms-of, forms-bytes}
-use Rattle.layers.specs.Layers.{allRows}
+use Rattle.number.proofs.Forms.{forms-of, forms-bytes, formsOf-append}
+use Rattle.layers.specs.Layers.{allRows, headsOf, headNumbers, listNumbers}
 use Rattle.layers.proofs.KindMeaning.{placement-kinds}
+use Rattle.layers.proofs.Listing.{list-bytes, list-most}
 use Rattle.layers.proofs.Each.{row-bytes}
 use Rattle.layers.proofs.Lengths.{length-allRows, length-headNumbers, headNumbers-most}
 use Rattle.placement.specs.Figure.{figureOf}
@@ -27,7 +28,8 @@ module _ (p : Placement) (good : GoodPlacement p) where
   bounds-most = all-imp (λ layer. layer .bound ≤ 16_777_216) _ (λ layer h. omega arith) (p .layers) (good .limits .lambda-most)
 
   kind-small : p .kind < 128
-  kind-small = ⊎-elim (λ two. omega arith) (λ three. omega arith) (placement-kinds (p .kind) (good .limits .kind))
+  kind-small =
+      ⊎-elim (λ two. omega arith) (⊎-elim (λ three. omega arith) (λ five. omega arith)) (placement-kinds (p .kind) (good .limits .kind))
 
   numbers-most : All (λ v. v ≤ largestNumber) (placementNumbers p)
   numbers-most =
@@ -38,7 +40,13 @@ module _ (p : Placement) (good : GoodPlacement p) where
         omega (arith, kind-small),
         (
           omega arith,
-          (omega arith, (omega arith, (omega arith, (omega arith, (omega arith, headNumbers-most (p .layers) bounds-most (omega arith)))))),
+          (
+            omega arith,
+            all-append (λ v. v ≤ largestNumber) (listNumbers (p .kind) (p .dark))
+                (p .s ∷ p .k ∷ p .b ∷ p .figure ∷ headNumbers (headsOf (p .layers)))
+                (list-most (p .n) (p .dark) (b .n-most) (l .dark .ordered) (p .kind))
+                (omega arith, (omega arith, (omega arith, (omega arith, headNumbers-most (p .layers) bounds-most (omega arith))))),
+          ),
         ),
       )
 
@@ -65,17 +73,20 @@ module _ (p : Placement) (good : GoodPlacement p) where
       length-flatten (p .r) (allRows (p .layers)) (all-imp _ _ (λ row h. h .0) (allRows (p .layers)) (good .rows))
       ∙ ap (λ n. n * p .r) (length-allRows (p .layers) ∙ good .limits .records-all)
 
-  head-length : length (formsOf (placementNumbers p)) ≤ 64
+  -- 64 without the list, and 384 for that
+  head-length : length (formsOf (placementNumbers p)) ≤ 448
   unfolding flatten
   head-length =
       let l = good .limits in
       let b = l .base in
       let o = l .order in
       let f = figure-le in
-      simp length-append
+      rw (formsOf-append (listNumbers (p .kind) (p .dark)) (p .s ∷ p .k ∷ p .b ∷ p .figure ∷ headNumbers (headsOf (p .layers))))
+      (simp length-append
       (omega (
         arith,
         numberBytes-length-one (p .kind) kind-small,
+        list-bytes (p .n) (p .dark) (b .n-most) (l .dark .ordered) (p .kind),
         numberBytes-length-le-two (p .n) (omega arith),
         numberBytes-length-le-two (p .r) (omega arith),
         numberBytes-length-le-two (p .s) (omega arith),
@@ -83,10 +94,10 @@ module _ (p : Placement) (good : GoodPlacement p) where
         numberBytes-length-le-two (p .b) (omega arith),
         numberBytes-length-le-two (p .figure) (omega arith),
         length-headNumbers (p .layers) bounds-most (omega arith),
-      ))
+      )))
 
-  -- "The output must have at least 64 + b × r bytes": enough for the whole file
-  pub written-length : length (placementBytes p) ≤ 64 + p .b * p .r
+  -- (h) "its output must now have at least 448 + b × r bytes": enough for the whole file, whatever its list
+  pub written-length : length (placementBytes p) ≤ 448 + p .b * p .r
   unfolding placementBytes
   written-length =
       rw (length-append (formsOf (placementNumbers p))) (omega (arith, head-length, rows-length))

@@ -1,12 +1,14 @@
 -- The answers of reading and checking a placement as values of the code's types, and what each case says. Assumes nothing.
 use Prim.Native.Nat.{ℕ}
-use mathlib.Core.List.{List, [], _∷_}
+use mathlib.Core.List.{List, [], _∷_, _++_}
+use lib.ListN.{length}
 use Rattle.refusal.specs.Refusals.{Outcome, result, refusalOutcome}
 use Rattle.refusal.specs.declared.Verdict.the-variants.{Good, Refused as Bad}
 use Rattle.refusal.specs.Checked.{Checked, accepted, refused}
 use Rattle.layers.specs.Layers.{Located, headsOf, headNumbers}
 use Rattle.layers.specs.declared.LayerHead.{LayerHead}
-use Rattle.layers.specs.Answers.{fiveHeads}
+use Rattle.layers.specs.declared.Dark.{Dark}
+use Rattle.layers.specs.Answers.{fiveHeads, darkOf, darkValues}
 use Rattle.placement.specs.Placement.{Placement, TermsReading}
 use Rattle.placement.specs.declared.TermsRead.{TermsRead}
 use Rattle.placement.specs.declared.PlacementHead.{PlacementHead}
@@ -36,21 +38,28 @@ placementHead file =
 
 abbrev pub placementChecked : Checked (Located Placement) → PlacementCheck
 placementChecked (accepted file) =
-    record { answer = Accepted (placementHead file); layers = fiveHeads (headsOf (file .content .layers)) }
-placementChecked (refused e) = record { answer = Refused e; layers = fiveHeads [] }
+    record {
+      answer = Accepted (placementHead file);
+      layers = fiveHeads (headsOf (file .content .layers));
+      dark = darkOf (file .content .dark);
+    }
+placementChecked (refused e) = record { answer = Refused e; layers = fiveHeads []; dark = darkOf [] }
 
--- an accepted placement's values: its kind, n, r, s, k, b, F, the place of its first row, and lambda and c of each of five layers, 0
--- and 0 from s on
-abbrev pub headValues : PlacementHead → List LayerHead → List ℕ
-headValues h layers = h .kind ∷ h .n ∷ h .r ∷ h .s ∷ h .k ∷ h .b ∷ h .figure ∷ h .first ∷ headNumbers layers
+-- an accepted placement's values: its kind, n, r, s, k, b, F, the place of its first row, lambda and c of each of five layers, 0
+-- and 0 from s on, how many nodes are out of service, and these
+abbrev pub headValues : PlacementHead → List LayerHead → (list : List ℕ) → List ℕ
+headValues h layers list =
+    h .kind ∷ h .n ∷ h .r ∷ h .s ∷ h .k ∷ h .b ∷ h .figure ∷ h .first ∷ (headNumbers layers ++ list)
 
 abbrev pub placementValues : Located Placement → List ℕ
-placementValues file = headValues (placementHead file) (fiveHeads (headsOf (file .content .layers)))
+placementValues file =
+    headValues (placementHead file) (fiveHeads (headsOf (file .content .layers)))
+    (length (file .content .dark) ∷ file .content .dark)
 
--- what the answer says, with the layers beside it
-abbrev pub placementSays : PlacementAnswer → List LayerHead → Outcome
-placementSays (Accepted head) layers = result (headValues head layers)
-placementSays (Refused e) layers = refusalOutcome e
+-- what the answer says, with the layers and the list beside it
+abbrev pub placementSays : PlacementAnswer → List LayerHead → Dark → Outcome
+placementSays (Accepted head) layers dark = result (headValues head layers (darkValues dark))
+placementSays (Refused e) layers dark = refusalOutcome e
 
 abbrev pub placementOutcome : PlacementCheck → Outcome
-placementOutcome check = placementSays (check .answer) (check .layers)
+placementOutcome check = placementSays (check .answer) (check .layers) (check .dark)

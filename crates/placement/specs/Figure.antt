@@ -10,7 +10,8 @@ use Rattle.layers.specs.declared.LayerHead.{LayerHead}
 use Rattle.placement.specs.declared.Rule.{Rule}
 use Rattle.placement.specs.declared.Rule.the-variants.{OneFloor, NestedFloors}
 
--- request (d): "A placement of kind 3 uses it", the Johnson bound; "Files of kind 2 are checked by the old formula."
+-- request (d): "A placement of kind 3 uses it", the Johnson bound; "Files of kind 2 are checked by the old formula."; (h) kind 5,
+-- "whose figure is that of kind 3"
 abbrev pub ruleOf : (kind : ℕ) → Rule
 ruleOf kind = cond (eqb kind 2) OneFloor NestedFloors
 

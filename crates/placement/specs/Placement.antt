@@ -10,9 +10,8 @@ use Rattle.refusal.specs.declared.Refusal.the-variants.{WrongFigure}
 use Rattle.refusal.specs.Checked.{Checked, accepted, _>>=_, require, mapAccepted}
 use Rattle.number.specs.Numbers.{formsOf, readWithin}
 use Rattle.packing.specs.Rows.{Row}
-use Rattle.layers.specs.Layers.{Layer, allRows, Packings, headsOf, headNumbers, sizes, File, Located, BaseLimits, isKind, readBase, readLayers, checkRows}
+use Rattle.layers.specs.Layers.{Layer, allRows, Packings, headsOf, headNumbers, sizes, File, Located, Site, BaseLimits, DarkLimits, InService, isKind, listNumbers, readBase, readLayers, checkRows}
 use Rattle.layers.specs.declared.FileKind.the-variants.{Placement as PlacementKind}
-use Rattle.layers.specs.declared.Base.{Base}
 use Rattle.layers.specs.declared.LayerHead.{LayerHead}
 use Rattle.layers.specs.declared.LayerLimits.{LayerLimits}
 use Rattle.placement.specs.Figure.{ruleOf, figureOf}
@@ -20,12 +19,13 @@ use Rattle.placement.specs.declared.Rule.{Rule}
 use Rattle.placement.specs.declared.Order.{Order}
 use Rattle.placement.specs.declared.Terms.{Terms}
 
--- the file's kind, n nodes, r replicas, the threshold s, k failures, b records, the figure F, and for each x from 0 to s-1 a layer of
+-- the file's kind, n nodes, r replicas, the nodes out of service, the threshold s, k failures, b records, the figure F, and for each x from 0 to s-1 a layer of
 -- rows with its lambda
 pub record Placement : Type 0 where
   pub kind : ℕ
   pub n : ℕ
   pub r : ℕ
+  pub dark : List ℕ
   pub s : ℕ
   pub k : ℕ
   pub b : ℕ
@@ -33,10 +33,11 @@ pub record Placement : Type 0 where
   pub layers : List Layer
 
 -- "The number 2; n; r; s; k; b; the figure F (0..b); for each x from 0 to s-1 the numbers lambda .. and c"; the number 3 in a
--- placement of kind 3
+-- placement of kind 3; request (h): in "placements of kind 5 .., after r, a count .. and then their numbers"
 abbrev pub placementNumbers : Placement → List ℕ
 placementNumbers p =
-    p .kind ∷ p .n ∷ p .r ∷ p .s ∷ p .k ∷ p .b ∷ p .figure ∷ headNumbers (headsOf (p .layers))
+    p .kind ∷ p .n ∷ p .r
+    ∷ (listNumbers (p .kind) (p .dark) ++ (p .s ∷ p .k ∷ p .b ∷ p .figure ∷ headNumbers (headsOf (p .layers))))
 
 -- "then b rows, layer by layer; then the end"
 abbrev pub PlacementFile : Placement → List ℕ → Type 0
@@ -51,21 +52,23 @@ pub record OrderLimits (n r : ℕ) (order : Order) : Type 0 where
   pub b-least : 1 ≤ order .b
   pub b-most : order .b ≤ 4_096
 
--- "Limits: n 2..255; r 2..5 and at most n; s 1..r; k s..n-1; b 1..4,096"; "lambda (0..16,777,216) and c (0 up to b less
+-- "Limits: n 2..255; r 2..5 and at most n; s 1..r; k s..n-1; b 1..4,096"; (h) the list's; "lambda (0..16,777,216) and c (0 up to b less
 -- the c's before; the last must equal what is left)"
 pub record PlacementLimits (p : Placement) : Type 0 where
   pub kind : T (isKind PlacementKind (p .kind))
   pub base : BaseLimits (p .n) (p .r)
+  pub dark : DarkLimits (p .kind) (p .n) (p .dark)
   pub order : OrderLimits (p .n) (p .r) (record { s = p .s; k = p .k; b = p .b })
   pub layer-each : length (p .layers) ≡ p .s
   pub lambda-most : All (λ layer. layer .bound ≤ 16_777_216) (p .layers)
   pub records-all : sizes (headsOf (p .layers)) ≡ p .b
 
--- Demand 2: what an accepted placement is. "In layer x every set of x+1 nodes stands in at most lambda of its c rows."
+-- Demand 2: what an accepted placement is. (h) "No row may name" a node out of service. "In layer x every set of x+1 nodes stands in at most lambda of its c rows."
 -- "F must equal b less the losses of all layers", by the rule of the file's kind.
 pub record GoodPlacement (p : Placement) : Type 0 where
   pub limits : PlacementLimits p
   pub rows : All (Row (p .n) (p .r)) (allRows (p .layers))
+  pub in-service : InService (p .dark) (allRows (p .layers))
   pub packings : Packings 0 (p .layers)
   pub formula : p .figure ≡ figureOf (ruleOf (p .kind)) (p .s) (p .k) (p .b) (headsOf (p .layers))
 
@@ -78,7 +81,7 @@ pub record TermsReading : Type 0 where
   pub next : ℕ
 
 -- "s; k; b; the figure F (0..b)": the numbers from `at` on, where n and r are known
-unfoldable pub readTerms : Base → List ℕ → (at : ℕ) → Checked TermsReading
+unfoldable pub readTerms : Site → List ℕ → (at : ℕ) → Checked TermsReading
 readTerms base bytes at = do
   s ← readWithin 1 (base .r) bytes at
   k ← readWithin (s .value) (base .n - 1) bytes (s .next)
@@ -96,12 +99,13 @@ checkFigure rule terms heads =
     require (eqb (terms .figure) (figureOf rule (terms .s) (terms .k) (terms .b) heads)) (WrongFigure (terms .place))
 
 -- what the numbers and the layers say
-abbrev pub placementOf : (kind : ℕ) → Base → Terms → List Layer → Placement
+abbrev pub placementOf : (kind : ℕ) → Site → Terms → List Layer → Placement
 placementOf kind base terms layers =
     record {
       kind = kind;
       n = base .n;
       r = base .r;
+      dark = base .dark;
       s = terms .s;
       k = terms .k;
       b = terms .b;

@@ -9,6 +9,11 @@ unfoldable pub placementFile : (kind figure : ℕ) → List ℕ
 placementFile kind figure =
     (kind ∷ 7 ∷ 3 ∷ 2 ∷ 3 ∷ 9 ∷ figure ∷ 1 ∷ 2 ∷ 1 ∷ 7 ∷ []) ++ flatten rows0 ++ flatten (rows1 row245)
 
+-- request (h): the same of kind 5, with a list after r; with an empty one "document 01's order gives 39, beginning 5 7 3 0 2"
+unfoldable pub listedFile : (list : List ℕ) (figure : ℕ) → List ℕ
+listedFile list figure =
+    (5 ∷ 7 ∷ 3 ∷ []) ++ list ++ (2 ∷ 3 ∷ 9 ∷ figure ∷ 1 ∷ 2 ∷ 1 ∷ 7 ∷ []) ++ flatten rows0 ++ flatten (rows1 row245)
+
 -- seven records on P's layer 1, with s 3 and k 4
 unfoldable pub sevenRecords : (kind figure : ℕ) → List ℕ
 sevenRecords kind figure =
@@ -21,6 +26,7 @@ sevenPlacement kind =
       kind = kind;
       n = 7;
       r = 3;
+      dark = [];
       s = 2;
       k = 3;
       b = 9;

@@ -6,7 +6,7 @@ use Rattle.layers.specs.Layers.{allRows, headsOf}
 use Rattle.placement.specs.Figure.{ruleOf, figureOf}
 use Rattle.placement.specs.Placement.{Placement}
 
--- how many units can fail: the nodes
+-- how many units can fail: the nodes, (h) "The guarantee is over failures among all n"
 abbrev pub units : Placement → ℕ
 units p = p .n
 

@@ -1,4 +1,5 @@
 // What checking a placement gives.
+use layers::Dark;
 use layers::LayerHead;
 use refusal::Refusal;
 use refusal::Verdict;
@@ -50,8 +51,10 @@ pub enum PlacementAnswer {
     Refused(Refusal),
 }
 
-// The answer, with lambda and c of each layer below s; entries from s on are 0, and so are all beside a refusal.
+// The answer, with lambda and c of each layer below s, and the nodes out of service; entries from s on are 0. Beside a refusal
+// all are 0, and the list is empty.
 pub struct PlacementCheck {
     pub answer: PlacementAnswer,
     pub layers: [LayerHead; 5],
+    pub dark: Dark,
 }

@@ -13,10 +13,12 @@ use Rattle.refusal.specs.declared.Refusal.the-variants.{WrongFigure}
 use Rattle.refusal.specs.Checked.{accepted, refused}
 use Rattle.layers.specs.Layers.{Layer, BaseReading, BaseLimits, sizes, headsOf, readBase, readLayers, checkRows}
 use Rattle.layers.specs.declared.FileKind.the-variants.{Placement as PlacementKind}
+use Rattle.layers.specs.Answers.{darkOf}
+use Rattle.layers.specs.declared.Dark.{Dark}
 use Rattle.layers.specs.declared.LayerHead.{LayerHead}
 use Rattle.layers.specs.declared.LayersRead.{LayersRead}
 use Rattle.layers.proofs.NumbersRead.{reads-le-length}
-use Rattle.layers.proofs.Heads.{fit-le, reads-of-readBase, readBase-inside}
+use Rattle.layers.proofs.Heads.{fit-le, held-of-readBase, readBase-inside}
 use Rattle.layers.proofs.RowsChecked.{taken-of-checkRows, taken-heads}
 use Rattle.layers.proofs.Answered.{LayersGood}
 use Rattle.placement.specs.Figure.{ruleOf, figureOf}
@@ -32,7 +34,7 @@ pub order-limits : (s : List ℕ) {head : BaseReading} {order : TermsReading} �
     → BaseLimits (head .base .n) (head .base .r) × OrderLimits (head .base .n) (head .base .r) (orderOf (order .terms))
     × (order .next ≤ length s)
 order-limits s {head} {order} b o =
-    let base = reads-of-readBase PlacementKind s b .1 in
+    let base = held-of-readBase PlacementKind s b .limits in
     let (reads, limits) = reads-of-readTerms (head .base) s (head .next) o (base .n-least) in
     (base, limits, reads-le-length (termNumbers (order .terms)) s (head .next) (order .next) (readBase-inside PlacementKind s b) reads)
 
@@ -104,12 +106,14 @@ module _ (s : List ℕ) where
           wrong-figure h = rw (b, o, l .accepts, r, ← formula, ne-eqb (order .terms .figure) figure h)
 
           pub right-figure : order .terms .figure ≡ figure
+              → {dark : Dark} → dark ≡ darkOf (head .base .dark)
               → _≡_ {A = PlacementCheck}
               (record {
                 answer = Accepted (placementHead (record { content = placementOf (head .kind) (head .base) (order .terms) layers; first = numbers .next }));
                 layers = numbers .heads;
+                dark = dark;
               })
               (placementChecked (readPlacement s))
           unfolding heads readPlacement checkFigure
-          right-figure h =
-              rw (b, o, l .accepts, r, ← formula, eq-eqb (order .terms .figure) figure h, same-heads, ← l .array)
+          right-figure h array =
+              rw (b, o, l .accepts, r, ← formula, eq-eqb (order .terms .figure) figure h, same-heads, ← l .array, array)

@@ -1,6 +1,7 @@
 // Checking placements.
 mod terms;
 
+use layers::Dark;
 use layers::FileKind;
 use layers::LayerHead;
 use layers::LayerLimits;
@@ -22,13 +23,17 @@ fn refuse(e: Refusal) -> PlacementCheck
     PlacementCheck {
         answer: PlacementAnswer::Refused(e),
         layers: [LayerHead { bound: 0, size: 0 }; 5],
+        dark: Dark {
+            count: 0,
+            nodes: [0; 255],
+        },
     }
 }
 
-// Checks a placement: its kind, n and r, then s, k, b and F, the layers' numbers, the rows, and the figure by the kind's rule.
+// Checks a placement: its kind, n, r and the nodes out of service, then s, k, b and F, the layers' numbers, the rows, and the figure by the kind's rule.
 //
-// Accepted exactly where the bytes are the file of a placement with document 01's limits, rows in order, the packing of every
-// layer and the formula's figure: `placement-accepted-iff` in `placement`. The figure of an accepted placement holds
+// Accepted exactly where the bytes are the file of a placement with document 01's limits, rows in order that name no node out of
+// service, the packing of every layer and the formula's figure: `placement-accepted-iff` in `placement`. The figure of an accepted placement holds
 // whichever k of its n nodes fail: `survivors` in `placement`.
 pub fn check_placement(bytes: &[u8]) -> PlacementCheck
     ensures { λ check. ⌜ check ≡ placementChecked (readPlacement (now (bytes .entry))) ⌝ }
@@ -69,6 +74,7 @@ pub fn check_placement(bytes: &[u8]) -> PlacementCheck
     if t.figure != placement_figure::figure_of(rule, order, layers) {
         return refuse(Refusal::WrongFigure(t.place));
     }
+    let dark = base.dark;
     PlacementCheck {
         answer: PlacementAnswer::Accepted(PlacementHead {
             kind,
@@ -81,5 +87,6 @@ pub fn check_placement(bytes: &[u8]) -> PlacementCheck
             first,
         }),
         layers,
+        dark,
     }
 }

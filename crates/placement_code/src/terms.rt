@@ -8,6 +8,7 @@ use refusal::Verdict;
 ghost use mathlib.Core.Path.{_≡_};
 ghost use Prim.Native.Nat.{_≤_};
 ghost use Rattle.refusal.specs.Checked.{refused};
+ghost use Rattle.layers.specs.Answers.{siteOf};
 ghost use Rattle.placement.specs.Placement.{readTerms};
 ghost use Rattle.placement.specs.Answers.{termsRead};
 
@@ -31,7 +32,7 @@ fn refuse(e: Refusal) -> TermsRead
 // The numbers from `at` on with the place after them, or refusal 1, 2 or 4.
 pub(crate) fn read_terms(bytes: &[u8], base: Base, at: usize) -> TermsRead
     requires { ⌜ 1 ≤ base .n ⌝ }
-    ensures { λ read. ⌜ read ≡ termsRead (readTerms base (now (bytes .entry)) at) ⌝ }
+    ensures { λ read. ⌜ read ≡ termsRead (readTerms (siteOf base) (now (bytes .entry)) at) ⌝ }
 {
     let n = base.n;
     let r = base.r;

@@ -15,11 +15,12 @@ use Rattle.refusal.specs.Checked.{accepted}
 use Rattle.number.specs.Numbers.{formsOf, largestNumber}
 use Rattle.number.proofs.Forms.{forms-most}
 use Rattle.packing.specs.Rows.{repeated}
-use Rattle.layers.specs.Layers.{Layer, blocksAt, allRows, headsOf, sizes}
+use Rattle.layers.specs.Layers.{Layer, blocksAt, allRows, headsOf, sizes, listNumbers}
 use Rattle.layers.specs.Answers.{noHead, fiveHeads}
 use Rattle.layers.specs.declared.Base.{Base}
 use Rattle.layers.specs.declared.LayerHead.{LayerHead}
 use Rattle.layers.proofs.Arrays.{take-five, sizes-take-le}
+use Rattle.layers.proofs.Listing.{dark-count}
 use Rattle.pack.specs.Pack.{Pack}
 use Rattle.placement.specs.Figure.{figureOf}
 use Rattle.placement.specs.declared.Rule.the-variants.{NestedFloors}
@@ -137,9 +138,9 @@ module _ {base : Base} {layers : List LayerHead} {blocks : List ℕ} {order : Or
       ap (figureOf NestedFloors (order .s) (order .k) (order .b)) (heads-agree w ∙ sym taken) ∙ sym (made .figure-is)
 
   numbers-are : placementNumbers (placement w) ≡ numbers
-  unfolding splitPlacement
+  unfolding splitPlacement listNumbers
   numbers-are =
-      rw (← made-figure, heads-placed (pack w) (order .s) (order .k) (order .b) (packSplit w), heads-agree w, taken)
+      rw (← made-figure, heads-placed (pack w) (order .s) (order .k) (order .b) (packSplit w), heads-agree w, taken, w .held .counted)
 
   -- layer x's count
   size-at : (x : ℕ) → x < order .s → layerAt heads x .size ≡ getD counts x 0
@@ -190,11 +191,14 @@ module _ {base : Base} {layers : List LayerHead} {blocks : List ℕ} {order : Or
   bytes-fit = omega (arith, bytes-length, written-length (placement w) (committed-good w), made .room)
 
   -- what writing the head asks
-  pub head-limits : (order .s ≤ 5) × (All (λ v. v ≤ largestNumber) numbers × (length (formsOf numbers) ≤ length out₀))
+  pub head-limits : (base .dark .count ≤ 255) × ((order .s ≤ 5) × (All (λ v. v ≤ largestNumber) numbers × (length (formsOf numbers) ≤ length out₀)))
   head-limits =
       let file = written-file (placement w) (committed-good w) in
       let most = forms-most (placementNumbers (placement w)) (file .0) (file .2) in
-      (s-le-five w, (subst (λ (l : List ℕ). All (λ v. v ≤ largestNumber) l) numbers-are most, omega (arith, bytes-fit)))
+      let limits = w .held .good .limits in (
+        omega (arith, w .held .counted, dark-count (base .n) (pack w .dark) (limits .dark-order), limits .base .n-most),
+        (s-le-five w, (subst (λ (l : List ℕ). All (λ v. v ≤ largestNumber) l) numbers-are most, omega (arith, bytes-fit))),
+      )
 
 -- The head is written to the start of the output, and ends at `at`.
 pub record HeadWritten (base : Base) (layers : List LayerHead) (blocks : List ℕ) (order : Order) (counts : List ℕ)

@@ -6,12 +6,13 @@ use mathlib.Core.List.{List}
 use lib.ListN.{length, getD}
 use Rattle.refusal.specs.Agree.{Agree}
 use Rattle.refusal.proofs.Agree.{agree-bind, agree-same}
+use Rattle.layers.specs.Layers.{listSize}
 use Rattle.layers.proofs.Padding.{Padded}
 use Rattle.pack.proofs.Padding.{checkPack-padded}
 use Rattle.placement.specs.declared.Order.{Order}
 use Rattle.planner.specs.Planning.{planPack, plan}
 
-pub plan-padded : (vs s s′ : List ℕ) → length vs ≤ 3 + 2 * getD vs 2 0 → Padded vs s s′ 0 0
+pub plan-padded : (vs s s′ : List ℕ) → length vs ≤ 3 + listSize vs + 2 * getD vs 2 0 → Padded vs s s′ 0 0
     → (order : Order) (work output : ℕ)
     → Agree (λ placement placement′. placement ≡ placement′) (plan s order work output) (plan s′ order work output)
 unfolding plan

@@ -2,14 +2,15 @@
 use Prim.Native.Nat.{ℕ, _+_, _*_, _≤_, _<_}
 use native.Mathlib.Omega.{arith}
 use mathlib.Core.Path.{_≡_, sym, _∙_, ap, subst}
-use mathlib.Core.List.{[], map, map-map}
+use mathlib.Core.Bool.{true≢false}
+use mathlib.Core.List.{List, [], map, map-map}
 use lib.ListN.{length}
 use Rattle.lists.specs.Lists.{All, upTo}
 use Rattle.lists.proofs.Alls.{all-map, all-flatten}
 use Rattle.lists.proofs.UpTo.{length-map-upTo, all-upTo, getD-map-upTo, map-upTo-congr}
 use Rattle.packing.specs.Rows.{Row, Packing}
 use Rattle.packing.proofs.Copies.{copies-packing, repeated-rows, length-repeated}
-use Rattle.layers.specs.Layers.{Layer, blocksAt, allRows, headOf, headsOf, Packings}
+use Rattle.layers.specs.Layers.{Layer, blocksAt, allRows, headOf, headsOf, Packings, Names}
 use Rattle.layers.proofs.Each.{layer-rows, headOf-blocksAt, packing-at, packings-from}
 use Rattle.pack.specs.Pack.{Pack, GoodPack}
 use Rattle.placement.specs.Figure.{figureOf}
@@ -43,22 +44,23 @@ module _ (pack : Pack) (s k b : ℕ) (split : ℕ → Share) where
         record {
           kind = tt;
           base = good .limits .base;
+          dark = record { ordered = good .limits .dark-order; unlisted = λ none. absurd (true≢false none) };
           order = order;
           layer-each = length-map-upTo placedAt s;
           lambda-most = all-map _ placedAt (upTo s) (all-upTo _ s (λ x lt. rw (headOf-blocksAt (pack .layers) x) at (lambdas x lt)));
           records-all = rw heads-placed (is .sum);
         }
 
-    placed-rows : All (Row (pack .n) (pack .r)) (allRows (map placedAt (upTo s)))
-    placed-rows =
-        all-flatten (Row (pack .n) (pack .r)) (map (λ layer. layer .rows) (map placedAt (upTo s)))
+    -- what holds of every block holds of every row
+    rows-of : (P : List ℕ → Type 0) → All P (allRows (pack .layers)) → All P (allRows (map placedAt (upTo s)))
+    rows-of P h =
+        all-flatten P (map (λ layer. layer .rows) (map placedAt (upTo s)))
         (rw (map-map (λ layer. layer .rows) placedAt (upTo s))
         (all-map _ (λ x. placedAt x .rows) (upTo s) (all-upTo _ s each)))
       where
-        each : (x : ℕ) → x < s → All (Row (pack .n) (pack .r)) (placedAt x .rows)
+        each : (x : ℕ) → x < s → All P (placedAt x .rows)
         each x lt =
-            repeated-rows _ (split x .copies) (split x .count) (blocksAt (pack .layers) x .rows) (held x lt)
-            (layer-rows (Row (pack .n) (pack .r)) (pack .layers) x (good .rows))
+            repeated-rows P (split x .copies) (split x .count) (blocksAt (pack .layers) x .rows) (held x lt) (layer-rows P (pack .layers) x h)
 
     placed-packings : Packings 0 (map placedAt (upTo s))
     placed-packings = packings-from 0 (map placedAt (upTo s)) each
@@ -78,7 +80,13 @@ module _ (pack : Pack) (s k b : ℕ) (split : ℕ → Share) where
     pub placed-good : GoodPlacement (splitPlacement pack s k b split)
     unfolding splitPlacement
     placed-good =
-        record { limits = placed-limits; rows = placed-rows; packings = placed-packings; formula = ap (figureOf NestedFloors s k b) (sym heads-placed) }
+        record {
+          limits = placed-limits;
+          rows = rows-of (Row (pack .n) (pack .r)) (good .rows);
+          in-service = rows-of (λ row. Names (pack .dark) row → ⊥) (good .in-service);
+          packings = placed-packings;
+          formula = ap (figureOf NestedFloors s k b) (sym heads-placed);
+        }
 
 -- a placement looks at the split's layers below s alone
 pub splitPlacement-congr : (pack : Pack) (s k b : ℕ) (a c : ℕ → Share) → ((x : ℕ) → x < s → a x ≡ c x)
@@ -87,4 +95,4 @@ unfolding splitPlacement
 splitPlacement-congr pack s k b a c h =
     let figure = ap (figureOf NestedFloors s k b) (splitHeads-congr (headsOf (pack .layers)) s a c h) in
     let layers = map-upTo-congr _ _ s (λ x l. ap (placed (blocksAt (pack .layers) x)) (h x l)) in
-    λ i. record { kind = 3; n = pack .n; r = pack .r; s = s; k = k; b = b; figure = figure i; layers = layers i }
+    λ i. record { kind = 5; n = pack .n; r = pack .r; dark = pack .dark; s = s; k = k; b = b; figure = figure i; layers = layers i }

@@ -22,13 +22,15 @@ abbrev pub placed : Layer → Share → Layer
 placed blocks share =
     record { bound = share .copies * blocks .bound; rows = repeated (blocks .rows) (share .count) }
 
--- the placement of a split; request (d): "The planner writes kind 3", whose rule of loss is the nested floors
+-- the placement of a split; request (h): "The planner copies the list and writes kind 5, whose figure is that of kind 3", by the
+-- nested floors of request (d)
 unfoldable pub splitPlacement : Pack → (s k b : ℕ) → (ℕ → Share) → Placement
 splitPlacement pack s k b split =
     record {
-      kind = 3;
+      kind = 5;
       n = pack .n;
       r = pack .r;
+      dark = pack .dark;
       s = s;
       k = k;
       b = b;
@@ -60,9 +62,9 @@ unfoldable pub checkWork : Order → (work : ℕ) → Checked Unit
 checkWork order work =
     require (leb (workNeeded (order .s) (order .b)) work) (ShortWork (workNeeded (order .s) (order .b)))
 
--- "The output must have at least 64 + b × r bytes"
+-- (h) "its output must now have at least 448 + b × r bytes"
 abbrev pub outputNeeded : (b r : ℕ) → ℕ
-outputNeeded b r = 64 + b * r
+outputNeeded b r = 448 + b * r
 
 -- "output too short": refusal 11, place "bytes needed"
 unfoldable pub checkOutput : (b r output : ℕ) → Checked Unit

@@ -1,10 +1,13 @@
 -- Writing a split's placement: what the code's arrays and bytes stand for. Assumes nothing.
 use Prim.Native.Nat.{ℕ, _*_, _≤_, _<_}
-use mathlib.Core.List.{List, _∷_, map, flatten}
+use mathlib.Core.Path.{_≡_}
+use mathlib.Core.List.{List, _∷_, _++_, map, flatten}
 use lib.ListN.{length, getD, take}
 use Rattle.lists.specs.Lists.{upTo}
 use Rattle.packing.specs.Rows.{repeated}
 use Rattle.layers.specs.Layers.{Layer, blocksAt, sizes, headsOf, headNumbers, layersAt}
+use Rattle.layers.specs.Answers.{darkList}
+use Rattle.layers.specs.Written.{startNumbers}
 use Rattle.layers.specs.declared.Base.{Base}
 use Rattle.layers.specs.declared.LayerHead.{LayerHead}
 use Rattle.pack.specs.Pack.{Pack, GoodPack}
@@ -19,17 +22,20 @@ heldLayers r layers blocks = layersAt r (take r layers) blocks
 
 -- and their pack
 abbrev pub heldPack : Base → (layers : List LayerHead) (blocks : List ℕ) → Pack
-heldPack base layers blocks = record { n = base .n; r = base .r; layers = heldLayers (base .r) layers blocks }
+heldPack base layers blocks =
+    record { n = base .n; r = base .r; dark = darkList (base .dark); layers = heldLayers (base .r) layers blocks }
 
 -- the placement of the split with these counts
 abbrev pub countsPlacement : Pack → Order → (counts : List ℕ) → Placement
 countsPlacement pack order counts =
     splitPlacement pack (order .s) (order .k) (order .b) (countsSplit (headsOf (pack .layers)) counts)
 
--- the numbers of a placement's head
+-- the numbers of a placement's head: those that every file with a list begins with, then its own
+abbrev pub ownNumbers : Order → (figure : ℕ) → List LayerHead → List ℕ
+ownNumbers order figure heads = order .s ∷ order .k ∷ order .b ∷ figure ∷ headNumbers heads
+
 abbrev pub writtenNumbers : Base → Order → (figure : ℕ) → List LayerHead → List ℕ
-writtenNumbers base order figure heads =
-    3 ∷ base .n ∷ base .r ∷ order .s ∷ order .k ∷ order .b ∷ figure ∷ headNumbers heads
+writtenNumbers base order figure heads = startNumbers 5 base ++ ownNumbers order figure heads
 
 -- the rows of the layers below x, "layer by layer", with the counts in the placement's head: "Row j (from 0) of a layer is
 -- its block j mod m"
@@ -40,6 +46,7 @@ rowsBelow blocks heads x =
 -- what planning on a pack asks of its numbers and its blocks, as the code has them
 pub record PackHeld (base : Base) (layers : List LayerHead) (blocks : List ℕ) : Type 0 where
   pub good : GoodPack (heldPack base layers blocks)
+  pub counted : length (darkList (base .dark)) ≡ base .dark .count
   pub whole : sizes (take (base .r) layers) * base .r ≤ length blocks
   pub most : (x : ℕ) → (layerAt layers x .bound ≤ 4_096) × (layerAt layers x .size ≤ 4_096)
 

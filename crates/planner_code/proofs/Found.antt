@@ -11,12 +11,14 @@ use Rattle.lists.proofs.Writing.{take-drop-rest}
 use Rattle.refusal.specs.declared.Refusal.{Refusal}
 use Rattle.refusal.specs.Checked.{Checked, accepted, refused, mapAccepted}
 use Rattle.layers.specs.Layers.{Layer, Located, sizes, allRows, headOf, headsOf, layersAt}
-use Rattle.layers.specs.Answers.{noHead, fiveHeads}
+use Rattle.layers.specs.Answers.{noHead, fiveHeads, darkOf, darkList}
 use Rattle.layers.specs.declared.Base.{Base}
+use Rattle.layers.specs.declared.Dark.{Dark}
 use Rattle.layers.specs.declared.LayerHead.{LayerHead}
 use Rattle.layers.proofs.Arrays.{take-five}
 use Rattle.layers.proofs.Lengths.{length-allRows}
 use Rattle.layers.proofs.Layouts.{layersAt-flatten}
+use Rattle.layers.proofs.Listing.{dark-count, darkList-darkOf}
 use Rattle.pack.specs.Pack.{Pack, GoodPack, readPack, checkPack}
 use Rattle.pack.specs.Answers.{packChecked}
 use Rattle.pack.specs.declared.PackHead.{PackHead}
@@ -40,22 +42,22 @@ sizes-most most (layer ∷ layers) h = (omega arith, sizes-most most layers (ome
 abbrev pub lentFrom : List ℕ → ℕ → List ℕ
 lentFrom bytes at = take (length bytes - at) (drop at bytes)
 
--- n and r of the check's answer
-abbrev pub baseOf : PackHead → Base
-baseOf head = record { n = head .n; r = head .r }
+-- n, r and the list of the check's answer
+abbrev pub baseOf : PackHead → Dark → Base
+baseOf head dark = record { n = head .n; r = head .r; dark = dark }
 
 -- the pack, its blocks in the bytes from `first` on, and what planning asks of it
-pub record PackFound (bytes : List ℕ) (head : PackHead) (layers : List LayerHead) : Type 0 where
-  pub found : checkPack bytes ≡ accepted (heldPack (baseOf head) layers (lentFrom bytes (head .first)))
+pub record PackFound (bytes : List ℕ) (head : PackHead) (layers : List LayerHead) (dark : Dark) : Type 0 where
+  pub found : checkPack bytes ≡ accepted (heldPack (baseOf head dark) layers (lentFrom bytes (head .first)))
   pub inside : head .first ≤ length bytes
-  pub held : PackHeld (baseOf head) layers (lentFrom bytes (head .first))
+  pub held : PackHeld (baseOf head dark) layers (lentFrom bytes (head .first))
 
 module _ (bytes : List ℕ) (file : Located Pack) (read : readPack bytes ≡ accepted file) where
   abbrev p : Pack
   p = file .content
 
   abbrev base : Base
-  base = record { n = p .n; r = p .r }
+  base = record { n = p .n; r = p .r; dark = darkOf (p .dark) }
 
   abbrev layers : List LayerHead
   layers = fiveHeads (headsOf (p .layers))
@@ -76,12 +78,16 @@ module _ (bytes : List ℕ) (file : Located Pack) (read : readPack bytes ≡ acc
   heads-are =
       take-five noHead (headsOf (p .layers)) (p .r) (length-map (p .layers) headOf ∙ good .limits .layer-each) (good .limits .base .r-most)
 
+  list-is : darkList (darkOf (p .dark)) ≡ p .dark
+  list-is =
+      darkList-darkOf (p .dark) (omega (arith, dark-count (p .n) (p .dark) (good .limits .dark-order), good .limits .base .n-most))
+
   pack-is : heldPack base layers blocks ≡ p
   pack-is =
       let layers-are : layersAt (p .r) (take (p .r) layers) blocks ≡ p .layers =
       rw (heads-are, blocks-are, ← append-nil (flatten (allRows (p .layers)))) (layersAt-flatten (p .r) (p .layers) [] rows-r)
       in
-      λ i. record { n = p .n; r = p .r; layers = layers-are i }
+      λ i. record { n = p .n; r = p .r; dark = list-is i; layers = layers-are i }
 
   numbers-most : All (λ head. (head .bound ≤ 4_096) × (head .size ≤ 4_096)) (headsOf (p .layers))
   numbers-most =
@@ -94,6 +100,7 @@ module _ (bytes : List ℕ) (file : Located Pack) (read : readPack bytes ≡ acc
   pack-held =
       record {
         good = rw pack-is good;
+        counted = ap length list-is;
         whole = rw (heads-are, blocks-are, length-flatten (p .r) (allRows (p .layers)) rows-r, length-allRows (p .layers)) (le-refl _);
         most =
             λ x.
@@ -101,7 +108,7 @@ module _ (bytes : List ℕ) (file : Located Pack) (read : readPack bytes ≡ acc
             (five-all _ (omega arith, omega arith) (headsOf (p .layers)) numbers-most);
       }
 
-  pack-found : PackFound bytes (record { n = p .n; r = p .r; first = file .first }) layers
+  pack-found : PackFound bytes (record { n = p .n; r = p .r; first = file .first }) layers (darkOf (p .dark))
   unfolding checkPack
   pack-found =
       record {
@@ -120,10 +127,10 @@ module _ (bytes : List ℕ) {check : PackCheck} (is : check ≡ packChecked (rea
       go (accepted file) q = cc
       go (refused why) q = cc
 
-  pub check-accepted : {head : PackHead} → check .answer ≡ Accepted head → PackFound bytes head (check .layers)
+  pub check-accepted : {head : PackHead} → check .answer ≡ Accepted head → PackFound bytes head (check .layers) (check .dark)
   check-accepted {head} a = go (readPack bytes) refl is
     where
-      go : (m : Checked (Located Pack)) → readPack bytes ≡ m → check ≡ packChecked m → PackFound bytes head (check .layers)
+      go : (m : Checked (Located Pack)) → readPack bytes ≡ m → check ≡ packChecked m → PackFound bytes head (check .layers) (check .dark)
       go (accepted file) read q =
           let answer : Accepted head ≡ packChecked (accepted file) .answer = sym a ∙ ap (λ (c : PackCheck). c .answer) q in
           let head-is : head ≡ record { n = file .content .n; r = file .content .r; first = file .first } = cc in

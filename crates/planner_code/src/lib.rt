@@ -101,6 +101,7 @@ pub fn plan(
 {
     let checked = pack_code::check_pack(pack);
     let layers = checked.layers;
+    let dark = checked.dark;
     let answer = checked.answer;
     match answer {
         PackAnswer::Refused(e) => refuse(e),
@@ -108,6 +109,7 @@ pub fn plan(
             let base = Base {
                 n: head.n,
                 r: head.r,
+                dark,
             };
             let first = head.first;
             plan_pack(&pack[first..], base, layers, Order { s, k, b }, work, out)

@@ -73,7 +73,7 @@ pub fn check_output(b: usize, r: usize, output: usize) -> Verdict
     requires { ⌜ (b ≤ 4_096) × (r ≤ 5) ⌝ }
     ensures { λ answer. ⌜ answer ≡ verdict (checkOutput b r output) ⌝ }
 {
-    let needed = 64 + b * r;
+    let needed = 448 + b * r;
     if output < needed {
         return Verdict::Refused(Refusal::ShortOutput(needed));
     }

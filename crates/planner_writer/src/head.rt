@@ -7,11 +7,11 @@ ghost use Prim.Native.Nat.{_≤_};
 ghost use lib.ListN.{length, take};
 ghost use Rattle.lists.specs.Lists.{All, overStart};
 ghost use Rattle.number.specs.Numbers.{largestNumber, formsOf};
-ghost use Rattle.planner.specs.Writing.{writtenNumbers};
+ghost use Rattle.planner.specs.Writing.{ownNumbers, writtenNumbers};
 
-// The numbers of a placement's head, with room for five layers.
-fn head_numbers(base: Base, order: Order, figure: usize, heads: [LayerHead; 5]) -> [usize; 17]
-    ensures { λ head. ⌜ head ≡ writtenNumbers base order figure heads ⌝ }
+// The numbers of a placement's head after the list of nodes, with room for five layers.
+fn own_numbers(order: Order, figure: usize, heads: [LayerHead; 5]) -> [usize; 14]
+    ensures { λ head. ⌜ head ≡ ownNumbers order figure heads ⌝ }
 {
     let h0 = heads[0];
     let h1 = heads[1];
@@ -19,9 +19,6 @@ fn head_numbers(base: Base, order: Order, figure: usize, heads: [LayerHead; 5]) 
     let h3 = heads[3];
     let h4 = heads[4];
     [
-        3,
-        base.n,
-        base.r,
         order.s,
         order.k,
         order.b,
@@ -39,7 +36,22 @@ fn head_numbers(base: Base, order: Order, figure: usize, heads: [LayerHead; 5]) 
     ]
 }
 
-// Writes a placement's head to the start of `out`, with the two numbers of each layer below s. Returns how many bytes it takes.
+// Writes them to the start of `out`, with the two numbers of each layer below s. Returns how many bytes they take.
+fn write_own(out: &mut [u8], order: Order, figure: usize, heads: [LayerHead; 5]) -> usize
+    requires { ⌜ order .s ≤ 5 ⌝ }
+    requires { ⌜ All (λ v. v ≤ largestNumber) (ownNumbers order figure (take (order .s) heads)) ⌝ }
+    requires { ⌜ length (formsOf (ownNumbers order figure (take (order .s) heads))) ≤ length (now out) ⌝ }
+    ensures { λ taken. ⌜ (taken ≡ length (formsOf (ownNumbers order figure (take (order .s) heads))))
+        × (now (out .exit) ≡ overStart (formsOf (ownNumbers order figure (take (order .s) heads))) (now (out .entry))) ⌝ }
+{
+    let s = order.s;
+    let head = own_numbers(order, figure, heads);
+    let numbers = 4 + 2 * s;
+    number_code::write_numbers(out, &head[0..numbers])
+}
+
+// Writes a placement's head to the start of `out`: kind 5, n, r and the nodes out of service, then its own numbers. Returns how
+// many bytes it takes.
 pub(crate) fn write_head(
     out: &mut [u8],
     base: Base,
@@ -47,14 +59,14 @@ pub(crate) fn write_head(
     figure: usize,
     heads: [LayerHead; 5],
 ) -> usize
+    requires { ⌜ base .dark .count ≤ 255 ⌝ }
     requires { ⌜ order .s ≤ 5 ⌝ }
     requires { ⌜ All (λ v. v ≤ largestNumber) (writtenNumbers base order figure (take (order .s) heads)) ⌝ }
     requires { ⌜ length (formsOf (writtenNumbers base order figure (take (order .s) heads))) ≤ length (now out) ⌝ }
     ensures { λ taken. ⌜ (taken ≡ length (formsOf (writtenNumbers base order figure (take (order .s) heads))))
         × (now (out .exit) ≡ overStart (formsOf (writtenNumbers base order figure (take (order .s) heads))) (now (out .entry))) ⌝ }
 {
-    let s = order.s;
-    let head = head_numbers(base, order, figure, heads);
-    let numbers = 7 + 2 * s;
-    number_code::write_numbers(out, &head[0..numbers])
+    let at = layers_writer::write_base(out, 5, base);
+    let more = write_own(&mut out[at..], order, figure, heads);
+    at + more
 }

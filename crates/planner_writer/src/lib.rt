@@ -16,7 +16,7 @@ ghost use Rattle.planner.specs.Planning.{outputNeeded, outputAfter};
 ghost use Rattle.planner.specs.Answers.{planAnswer};
 ghost use Rattle.planner.specs.Writing.{heldPack, countsPlacement, Writable};
 
-// Writes the placement of the split with these counts and the least copies, a file of kind 3, to the start of `out`.
+// Writes the placement of the split with these counts and the least copies, a file of kind 5, to the start of `out`.
 // `blocks` has the pack's blocks. Returns its length and figure.
 pub fn write_placement(
     out: &mut [u8],

@@ -14,11 +14,13 @@ use Rattle.refusal.specs.Checked.{Checked, accepted, refused, _>>=_, outcome, w
 use Rattle.number.specs.declared.Reading.{Reading}
 use Rattle.number.specs.Answers.{numberRead, readOutcome, numberWritten, writtenOutcome}
 use Rattle.packing.specs.Answers.{rowFound, rowOutcome}
-use Rattle.layers.specs.Layers.{Located, BaseReading, LayerHeads}
-use Rattle.layers.specs.Answers.{baseRead, layersRead}
-use Rattle.pack.specs.Pack.{Pack}
+use Rattle.layers.specs.Layers.{Located, NodesReading, BaseReading, LayerHeads}
+use Rattle.layers.specs.Answers.{darkRead, baseRead, layersRead}
+use Rattle.pack.specs.Pack.{Pack, readPack}
+use Rattle.pack.proofs.Accepted.{pack-told}
 use Rattle.pack.specs.Answers.{packChecked, packOutcome, packValues}
-use Rattle.placement.specs.Placement.{Placement, TermsReading}
+use Rattle.placement.specs.Placement.{Placement, TermsReading, readPlacement}
+use Rattle.placement.proofs.Answered.{placement-told}
 use Rattle.placement.specs.Answers.{termsRead, placementChecked, placementOutcome, placementValues}
 use Rattle.planner.specs.Answers.{planAnswer, planOutcome, planValues}
 use Rattle.walk.specs.declared.Cursor.{Cursor}
@@ -75,10 +77,14 @@ pub demand-1-verdict : {A : Type 0} (c : Checked A) → verdictOutcome (verdict 
 demand-1-verdict (accepted a) = refl
 demand-1-verdict (refused e) = refl
 
--- the parts that both checkers have: n and r, the layers' numbers, and a placement's s, k, b and F
+-- the parts that both checkers have: n, r and the list, the layers' numbers, and a placement's s, k, b and F
 pub demand-1-base : (c : Checked BaseReading) → verdictOutcome (baseRead c .verdict) ≡ outcome (λ b. []) c
 demand-1-base (accepted b) = refl
 demand-1-base (refused e) = refl
+
+pub demand-1-list : (c : Checked NodesReading) → verdictOutcome (darkRead c .verdict) ≡ outcome (λ list. []) c
+demand-1-list (accepted list) = refl
+demand-1-list (refused e) = refl
 
 pub demand-1-layers : (c : Checked LayerHeads) → verdictOutcome (layersRead c .verdict) ≡ outcome (λ layers. []) c
 demand-1-layers (accepted layers) = refl
@@ -88,14 +94,21 @@ pub demand-1-terms : (c : Checked TermsReading) → verdictOutcome (termsRead c 
 demand-1-terms (accepted order) = refl
 demand-1-terms (refused e) = refl
 
--- the checkers
-pub demand-1-pack : (c : Checked (Located Pack)) → packOutcome (packChecked c) ≡ outcome packValues c
-demand-1-pack (accepted file) = refl
-demand-1-pack (refused e) = refl
+-- the checkers, of any bytes: the list of nodes out of service is among the values
+pub demand-1-pack : (bytes : List ℕ) → packOutcome (packChecked (readPack bytes)) ≡ outcome packValues (readPack bytes)
+demand-1-pack bytes = go (readPack bytes) refl
+  where
+    go : (c : Checked (Located Pack)) → readPack bytes ≡ c → packOutcome (packChecked c) ≡ outcome packValues c
+    go (accepted file) e = pack-told bytes file e
+    go (refused why) e = refl
 
-pub demand-1-placement : (c : Checked (Located Placement)) → placementOutcome (placementChecked c) ≡ outcome placementValues c
-demand-1-placement (accepted file) = refl
-demand-1-placement (refused e) = refl
+pub demand-1-placement : (bytes : List ℕ)
+    → placementOutcome (placementChecked (readPlacement bytes)) ≡ outcome placementValues (readPlacement bytes)
+demand-1-placement bytes = go (readPlacement bytes) refl
+  where
+    go : (c : Checked (Located Placement)) → readPlacement bytes ≡ c → placementOutcome (placementChecked c) ≡ outcome placementValues c
+    go (accepted file) e = placement-told bytes file e
+    go (refused why) e = refl
 
 -- the planner: "The answer is the length, F and the counts."
 pub demand-1-plan : (c : Checked Placement) → planOutcome (planAnswer c) ≡ outcome planValues c

@@ -15,13 +15,14 @@ use Rattle.packing.specs.Failures.{Failure, FailedNodes, usable}
 use Rattle.packing.proofs.Failed.{failure-of-nodes}
 use Rattle.layers.specs.Layers.{Layer, Located, Stands, headsOf}
 use Rattle.layers.proofs.Files.{file-read, read-file}
-use Rattle.pack.specs.Pack.{Pack, PackFile, GoodPack, packNumbers, readPack}
+use Rattle.pack.specs.Pack.{Pack, PackFile, GoodPack, readPack}
 use Rattle.pack.specs.Answers.{packChecked, packOutcome, packValues}
-use Rattle.pack.proofs.Accepted.{read-of-pack, pack-accepted}
+use Rattle.pack.proofs.Accepted.{read-of-pack, pack-accepted, pack-read, read-pack, pack-told}
 use Rattle.placement.specs.Placement.{Placement, PlacementFile, GoodPlacement, placementNumbers, placementBytes, readPlacement}
 use Rattle.placement.specs.declared.Rule.the-variants.{NestedFloors}
 use Rattle.placement.specs.Answers.{placementChecked, placementOutcome, placementValues}
 use Rattle.placement.proofs.Accepted.{read-of-placement, placement-accepted}
+use Rattle.placement.proofs.Answered.{placement-told}
 use Rattle.placement.proofs.Survivors.{survivors}
 use Rattle.split.specs.Splits.{Share, Named}
 use Rattle.split.proofs.Named.{named-unique}
@@ -36,8 +37,9 @@ one-place s a b layers (ha, da) (hb, db) =
     omega (arith, length-drop a s, length-drop b s)
 
 -- Demand 2: "A pack .. is accepted exactly when it has document 01's layout, in every layer x no x+1 nodes stand together
--- in more rows than that layer allows". `PackFile` is the layout, `GoodPack` the limits, the rows and the packings. The answer
--- has the pack's n and r, the place where its blocks stand, and mu and m of each layer.
+-- in more rows than that layer allows". `PackFile` is the layout, `GoodPack` the limits, the list's among them, the rows, that none
+-- names a node out of service, and the packings. The answer has the pack's n and r, the place where its blocks stand, mu and m of
+-- each layer, and the list.
 pub demand-2-pack : (bytes values : List ℕ) → Bytes bytes
     → (packOutcome (packChecked (readPack bytes)) ≡ result values)
     ↔ ((file : Located Pack) × (values ≡ packValues file) × PackFile (file .content) bytes
@@ -52,8 +54,9 @@ demand-2-pack bytes values h = (λ e. to (readPack bytes) refl e, from)
     to (accepted file) r e =
         let p = file .content in
         let (f, good) = read-of-pack bytes p (file .first) r in
+        let told = pack-told bytes file r in
         let same : packValues file ≡ values = cc in
-        (file, sym same, read-file (packNumbers p) (p .layers) bytes (file .first) h f, (f .inside, f .rest), good)
+        (file, sym same, read-pack p bytes (file .first) h f, (f .file .inside, f .file .rest), good)
     to (refused why) r e = absurd (not-both e)
 
     from : ((file : Located Pack) × (values ≡ packValues file) × PackFile (file .content) bytes
@@ -62,12 +65,15 @@ demand-2-pack bytes values h = (λ e. to (readPack bytes) refl e, from)
         → packOutcome (packChecked (readPack bytes)) ≡ result values
     from (file, same, is-file, stands, good) =
         let p = file .content in
-        let (first, f) = file-read (packNumbers p) (p .layers) bytes is-file in
-        let place = one-place bytes first (file .first) (p .layers) (f .inside, f .rest) stands in
-        rw (pack-accepted bytes p first f good, place, same)
+        let (first, f) = pack-read p bytes is-file in
+        let place = one-place bytes first (file .first) (p .layers) (f .file .inside, f .file .rest) stands in
+        let read : readPack bytes ≡ accepted file =
+        pack-accepted bytes p first f good ∙ (λ i. accepted (record { content = p; first = place i })) in
+        rw (read, same) (pack-told bytes file read)
 
--- The same of a placement, "and a placement's figure is the one 01's formula gives", in kind 3 that of request (d): the last field of `GoodPlacement`. The
--- answer has the placement's kind, n, r, s, k, b and F, the place where its rows stand, and lambda and c of each layer.
+-- The same of a placement, "and a placement's figure is the one 01's formula gives", in kinds 3 and 5 that of request (d): the last field of
+-- `GoodPlacement`. The answer has the placement's kind, n, r, s, k, b and F, the place where its rows stand, lambda and c of each
+-- layer, and the list.
 pub demand-2-placement : (bytes values : List ℕ) → Bytes bytes
     → (placementOutcome (placementChecked (readPlacement bytes)) ≡ result values)
     ↔ ((file : Located Placement) × (values ≡ placementValues file) × PlacementFile (file .content) bytes
@@ -82,6 +88,7 @@ demand-2-placement bytes values h = (λ e. to (readPlacement bytes) refl e, from
     to (accepted file) r e =
         let p = file .content in
         let (f, good) = read-of-placement bytes p (file .first) r in
+        let told = placement-told bytes file r in
         let same : placementValues file ≡ values = cc in
         (file, sym same, read-file (placementNumbers p) (p .layers) bytes (file .first) h f, (f .inside, f .rest), good)
     to (refused why) r e = absurd (not-both e)
@@ -94,9 +101,11 @@ demand-2-placement bytes values h = (λ e. to (readPlacement bytes) refl e, from
         let p = file .content in
         let (first, f) = file-read (placementNumbers p) (p .layers) bytes is-file in
         let place = one-place bytes first (file .first) (p .layers) (f .inside, f .rest) stands in
-        rw (placement-accepted bytes p first f good, place, same)
+        let read : readPlacement bytes ≡ accepted file =
+        placement-accepted bytes p first f good ∙ (λ i. accepted (record { content = p; first = place i })) in
+        rw (read, same) (placement-told bytes file read)
 
--- "the planner writes the one placement that 01 names", by the figure of kind 3: two splits that are named are one, and so are their placements and
+-- "the planner writes the one placement that 01 names", by the figure of the nested floors: two splits that are named are one, and so are their placements and
 -- the bytes of these.
 pub demand-2-one-named : (pack : Pack) (s k b : ℕ) (split other : ℕ → Share)
     → Named NestedFloors (headsOf (pack .layers)) s k b split → Named NestedFloors (headsOf (pack .layers)) s k b other

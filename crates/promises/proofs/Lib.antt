@@ -9,5 +9,7 @@ pub mod RequestC
 pub mod RequestD
 pub mod RequestF
 pub mod RequestG
+pub mod RequestH
 pub mod Starred
 pub mod RequestE
+pub mod RequestHPlans

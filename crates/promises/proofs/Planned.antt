@@ -21,6 +21,7 @@ use Rattle.placement.specs.Placement.{Placement, OrderLimits, placementBytes, r
 use Rattle.placement.specs.declared.Rule.the-variants.{NestedFloors}
 use Rattle.placement.specs.Answers.{placementChecked, placementOutcome, placementValues}
 use Rattle.placement.specs.declared.Order.{Order}
+use Rattle.placement.proofs.Answered.{placement-told}
 use Rattle.placement.proofs.Written.{written-bytes}
 use Rattle.split.specs.Splits.{Share, Split, Named, splitFigure, hasBlock, namedSplit}
 use Rattle.split.proofs.Named.{named, named-highest}
@@ -52,14 +53,16 @@ pub record Kept (pack : Pack) (s k b : ℕ) (work work-left out out-left : List 
   pub first : ℕ
   pub checked : placementOutcome (placementChecked (readPlacement (placementBytes placement)))
       ≡ result (placementValues (record { content = placement; first = first }))
-  -- "That placement has the pack's n and r, the given s, k and b"; its F and counts are the answer's, by `planValues`
-  -- the kind is that of request (d)
-  pub numbers : (placement .kind ≡ 3)
+  -- "That placement has the pack's n and r, the given s, k and b"; its F and counts are the answer's, by `planValues`; the kind is
+  -- that of request (h)
+  pub numbers : (placement .kind ≡ 5)
       × (placement .n ≡ pack .n)
       × (placement .r ≡ pack .r)
       × (placement .s ≡ s)
       × (placement .k ≡ k)
       × (placement .b ≡ b)
+  -- (h) "The planner copies the list"
+  pub list : placement .dark ≡ pack .dark
   -- "so this F too holds whichever k nodes fail": of the records in the bytes written
   pub survives : (failed : List ℕ) → FailedNodes (pack .n) k failed
       → placement .figure ≤ usable s (recordsIn (placementBytes placement) first (pack .r) b) (λ v. member v failed)
@@ -91,7 +94,8 @@ demand-3-written bytes pack h is s k b limits block work work-left out out-left 
     (plan-accepted bytes pack accept order limits block) in
     let found : readPlacement wrote ≡ accepted (record { content = p; first = file .first }) =
     read ∙ (λ i. accepted (record { content = same i; first = file .first })) in
-    let says = ap (λ c. placementOutcome (placementChecked c)) found in
+    let says = ap (λ c. placementOutcome (placementChecked c)) found
+    ∙ placement-told wrote (record { content = p; first = file .first }) found in
     record {
       split = namedSplit NestedFloors (headsOf (pack .layers)) s k b;
       placement = p;
@@ -108,6 +112,7 @@ demand-3-written bytes pack h is s k b limits block work work-left out out-left 
       first = file .first;
       checked = says;
       numbers = (refl, refl, refl, refl, refl, refl);
+      list = refl;
       survives = demand-3-whichever wrote says;
       best = named-highest NestedFloors (headsOf (pack .layers)) s k b (limits .b-most) block;
     }

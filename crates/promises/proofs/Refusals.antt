@@ -16,11 +16,12 @@ use Rattle.number.proofs.Meaning.{number-refused-iff, within-refused-iff}
 use Rattle.packing.specs.Rows.{distinct, subsets, SetIn}
 use Rattle.packing.proofs.Sets.{ListedSet, subsets-in, listed-set}
 use Rattle.packing.proofs.Subsets.{AllApart, length-subsets, subsets-apart}
-use Rattle.layers.specs.Layers.{BaseReading, LayerHeads, readKind, readBase, readLayers}
+use Rattle.layers.specs.Layers.{BaseReading, LayerHeads, listed, readKind, readDark, readBase, readLayers}
 use Rattle.layers.specs.declared.FileKind.{FileKind}
 use Rattle.layers.specs.declared.FileKind.the-variants.{Pack as PackKind, Placement as PlacementKind}
-use Rattle.layers.specs.Meaning.{KindRefused, RowsRefused}
+use Rattle.layers.specs.Meaning.{KindRefused, ListRefused, RowsRefused}
 use Rattle.layers.proofs.KindMeaning.{kind-refused-iff}
+use Rattle.layers.proofs.ListMeaning.{list-refused-iff}
 use Rattle.pack.specs.Pack.{packLayerLimits, checkPack}
 use Rattle.pack.proofs.Meaning.{pack-refused-iff}
 use Rattle.placement.specs.Figure.{ruleOf}
@@ -41,7 +42,13 @@ pub refusals-of-a-head-number : (lo hi : ℕ) (s : List ℕ) (at : ℕ) (e : Ref
     → (readWithin lo hi s at ≡ refused e) ↔ WithinRefused lo hi s at e
 refusals-of-a-head-number = within-refused-iff
 
--- "Then 1 or 5 for the rows' total length, then 6 over all rows, then 7": a pack whose head's numbers are in order, with any x
+-- Request (h), the list after r: its count and its numbers are checked in file order, each for 1, 2, then 4; kinds without a list
+-- have none to refuse
+pub refusals-of-the-list : (kind n : ℕ) (s : List ℕ) (at : ℕ) (e : Refusal)
+    → (readDark kind n s at ≡ refused e) ↔ (T (listed kind) × ListRefused n s at e)
+refusals-of-the-list = list-refused-iff
+
+-- "Then 1 or 5 for the rows' total length, then 6 over all rows", then 15, "then 7": a pack whose head's numbers are in order, with any x
 pub refusals-of-a-pack : (s : List ℕ) {head : BaseReading} {numbers : LayerHeads} → readBase PackKind s ≡ accepted head
     → readLayers packLayerLimits (head .base .r) 4_096 s (head .next) ≡ accepted numbers
     → (e : Refusal) → (checkPack s ≡ refused e) ↔ RowsRefused (head .base) (numbers .heads) s (numbers .next) e

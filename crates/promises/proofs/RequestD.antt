@@ -1,16 +1,17 @@
 -- Document 02's request (d), Johnson's nested floors, as theorems in its words. All of demand 2 and demand 3 in `Demands`,
--- `Planned` and `Programs` is by the rule of the file's kind, and of the planner by the nested floors. Assumes nothing.
+-- `Planned` and `Programs` is by the rule of the file's kind, and of the planner by the nested floors; it wrote kind 3 until
+-- request (h). Assumes nothing.
 use Prim.Native.Nat.{ℕ, suc, _≤_}
 use native.Mathlib.Omega.{arith}
 use mathlib.Core.Path.{_≡_, refl, _∙_}
 use mathlib.Core.Logic.{_⊎_, inl, inr}
-use mathlib.Core.List.{List, [], _∷_, flatten}
-use lib.ListN.{length, take, length-map}
+use mathlib.Core.List.{List, [], _∷_}
+use lib.ListN.{length, length-map}
 use lib.Dec.{T}
 use Rattle.refusal.specs.Refusals.{result, refusal}
 use Rattle.refusal.specs.Checked.{Checked, accepted, refused}
 use Rattle.refusal.specs.declared.Refusal.the-variants.{WrongKind}
-use Rattle.number.specs.Numbers.{groups, numberBytes, readNumber}
+use Rattle.number.specs.Numbers.{readNumber}
 use Rattle.number.specs.declared.Reading.{Reading}
 use Rattle.packing.specs.Rows.{member, recordsIn}
 use Rattle.packing.specs.Failures.{FailedNodes, usable}
@@ -20,29 +21,26 @@ use Rattle.layers.specs.declared.LayerHead.{LayerHead}
 use Rattle.layers.proofs.KindMeaning.{placement-kinds, kind-refused-iff}
 use Rattle.placement.specs.declared.Rule.the-variants.{OneFloor, NestedFloors}
 use Rattle.placement.specs.Figure.{loss, figureOf}
-use Rattle.placement.specs.Placement.{Placement, GoodPlacement, placementBytes, readPlacement}
+use Rattle.placement.specs.Placement.{Placement, GoodPlacement, readPlacement}
 use Rattle.placement.specs.Answers.{placementChecked, placementOutcome}
 use Rattle.placement.specs.SevenCabinets.{sevenRecords}
 use Rattle.placement.proofs.Accepted.{read-of-placement}
 use Rattle.placement.proofs.Losses.{nested-le-one, figure-one-le-nested}
 use Rattle.placement.proofs.Worked.{same-rows}
-use Rattle.pack.specs.Pack.{Pack}
-use Rattle.planner.specs.declared.PlanResult.{PlanResult}
 use Rattle.promises.proofs.Demands.{demand-3-whichever}
-use Rattle.promises.proofs.Planned.{Kept}
 
--- "the survivor guarantee has to hold for both": an accepted placement is of kind 2 or 3 and, whichever k of its n nodes fail,
--- at least F of its b records stay usable
+-- "the survivor guarantee has to hold for both": an accepted placement is of kind 2 or 3 or, by request (h), 5 and, whichever k of
+-- its n nodes fail, at least F of its b records stay usable
 pub d-both-kinds-hold : (bytes : List ℕ) {kind n r s k b figure first : ℕ} {layers : List ℕ}
     → placementOutcome (placementChecked (readPlacement bytes)) ≡ result (kind ∷ n ∷ r ∷ s ∷ k ∷ b ∷ figure ∷ first ∷ layers)
-    → ((kind ≡ 2) ⊎ (kind ≡ 3))
+    → ((kind ≡ 2) ⊎ ((kind ≡ 3) ⊎ (kind ≡ 5)))
     × ((failed : List ℕ) → FailedNodes n k failed → figure ≤ usable s (recordsIn bytes first r b) (λ v. member v failed))
 d-both-kinds-hold bytes {kind} {n} {r} {s} {k} {b} {figure} {first} {layers} e =
     (go (readPlacement bytes) refl e, demand-3-whichever bytes e)
   where
     go : (c : Checked (Located Placement)) → readPlacement bytes ≡ c
         → placementOutcome (placementChecked c) ≡ result (kind ∷ n ∷ r ∷ s ∷ k ∷ b ∷ figure ∷ first ∷ layers)
-        → (kind ≡ 2) ⊎ (kind ≡ 3)
+        → (kind ≡ 2) ⊎ ((kind ≡ 3) ⊎ (kind ≡ 5))
     go (accepted file) q says =
         let p = file .content in
         let good = read-of-placement bytes p (file .first) q .1 in
@@ -77,9 +75,9 @@ d-figure-never-below p q good also two three s-same k-same b-same rows-same =
 
 -- and it is above where document 01's pack has s 3, k 4, b 7: "figure 6 where it had 5"
 pub d-example-above : (placementOutcome (placementChecked (readPlacement (sevenRecords 2 5)))
-    ≡ result (2 ∷ 7 ∷ 3 ∷ 3 ∷ 4 ∷ 7 ∷ 5 ∷ 13 ∷ 0 ∷ 0 ∷ 1 ∷ 7 ∷ 0 ∷ 0 ∷ 0 ∷ 0 ∷ 0 ∷ 0 ∷ []))
+    ≡ result (2 ∷ 7 ∷ 3 ∷ 3 ∷ 4 ∷ 7 ∷ 5 ∷ 13 ∷ 0 ∷ 0 ∷ 1 ∷ 7 ∷ 0 ∷ 0 ∷ 0 ∷ 0 ∷ 0 ∷ 0 ∷ 0 ∷ []))
     × (placementOutcome (placementChecked (readPlacement (sevenRecords 3 6)))
-    ≡ result (3 ∷ 7 ∷ 3 ∷ 3 ∷ 4 ∷ 7 ∷ 6 ∷ 13 ∷ 0 ∷ 0 ∷ 1 ∷ 7 ∷ 0 ∷ 0 ∷ 0 ∷ 0 ∷ 0 ∷ 0 ∷ []))
+    ≡ result (3 ∷ 7 ∷ 3 ∷ 3 ∷ 4 ∷ 7 ∷ 6 ∷ 13 ∷ 0 ∷ 0 ∷ 1 ∷ 7 ∷ 0 ∷ 0 ∷ 0 ∷ 0 ∷ 0 ∷ 0 ∷ 0 ∷ []))
     × (placementOutcome (placementChecked (readPlacement (sevenRecords 2 6))) ≡ refusal 8 6)
     × (placementOutcome (placementChecked (readPlacement (sevenRecords 3 5))) ≡ refusal 8 6)
 d-example-above = same-rows
@@ -87,9 +85,10 @@ d-example-above = same-rows
 -- any other first number is refusal 3, "the first number is not the file's kind"
 pub d-other-kind-refused : (bytes : List ℕ) (first : Reading) → readNumber bytes 0 ≡ accepted first → (first .value ≡ 2 → ⊥)
     → (first .value ≡ 3 → ⊥)
+    → (first .value ≡ 5 → ⊥)
     → placementOutcome (placementChecked (readPlacement bytes)) ≡ refusal 3 0
 unfolding readPlacement readBase
-d-other-kind-refused bytes first read not-two not-three =
+d-other-kind-refused bytes first read not-two not-three not-five =
     let refuses : readKind PlacementKind bytes ≡ refused WrongKind =
     kind-refused-iff PlacementKind bytes WrongKind .1 (inr (refl, (first, read, neither))) in
     rw refuses
@@ -97,14 +96,7 @@ d-other-kind-refused bytes first read not-two not-three =
     neither : T (isKind PlacementKind (first .value)) → ⊥
     neither t = go (placement-kinds (first .value) t)
       where
-        go : (first .value ≡ 2) ⊎ (first .value ≡ 3) → ⊥
+        go : (first .value ≡ 2) ⊎ ((first .value ≡ 3) ⊎ (first .value ≡ 5)) → ⊥
         go (inl two) = not-two two
-        go (inr three) = not-three three
-
--- "The planner writes kind 3": the bytes of what it writes begin with 3. Its split is the one named by the nested floors, and no
--- other split has a higher figure by them: `named` and `best` of `Kept`, for which `demand-3-written` is the theorem.
-pub d-planner-writes-kind-3 : {pack : Pack} {s k b : ℕ} {work work-left out out-left : List ℕ} {given : PlanResult}
-    → (kept : Kept pack s k b work work-left out out-left given)
-    → (kept .placement .kind ≡ 3) × (take 1 (placementBytes (kept .placement)) ≡ 3 ∷ [])
-unfolding placementBytes flatten groups numberBytes
-d-planner-writes-kind-3 kept = (kept .numbers .0, rw (kept .numbers .0) refl)
+        go (inr (inl three)) = not-three three
+        go (inr (inr five)) = not-five five

@@ -12,8 +12,8 @@ use Rattle.refusal.specs.Agree.{Agree, both-accepted, both-refused}
 use Rattle.number.specs.Numbers.{Bytes, Form, Forms, numberBytes, readNumber, largestNumber}
 use Rattle.number.specs.declared.Reading.{Reading}
 use Rattle.number.proofs.Laws.{read-iff-form, read-length, form-value-unique, form-numberBytes, form-shortest}
-use Rattle.layers.specs.Layers.{Located, headsOf, headNumbers}
-use Rattle.layers.specs.Answers.{fiveHeads}
+use Rattle.layers.specs.Layers.{Located, headsOf, headNumbers, listSize}
+use Rattle.layers.specs.Answers.{fiveHeads, darkOf, darkValues}
 use Rattle.layers.proofs.Padding.{padded-forms}
 use Rattle.pack.specs.Pack.{readPack, Pack}
 use Rattle.pack.proofs.Padding.{readPack-padded}
@@ -91,15 +91,16 @@ SameContent file other = file .content ≡ other .content
 -- "Several files may now carry one placement; two files that differ only in such padding are both accepted or both refused":
 -- forms f and g of the same numbers, any first ones of the head, and the same bytes after them. Both are accepted, with the same
 -- pack or placement, or both are refused, with the same number, also where the file is bad further on; places may differ. A
--- pack's head has 3 + 2r numbers, by the r that is the third; a placement's 7 + 2s, by the s that is the fourth.
+-- pack's head has 3 + 2r numbers, by the r that is the third, and those of its list (request (h)); a placement's 7 + 2s, by the s
+-- that comes after r and the list, and the list's.
 pub b-same-pack : (numbers f g rest : List ℕ) → Forms numbers f → Forms numbers g
-    → length numbers ≤ 3 + 2 * getD numbers 2 0
+    → length numbers ≤ 3 + listSize numbers + 2 * getD numbers 2 0
     → Agree SameContent (readPack (f ++ rest)) (readPack (g ++ rest))
 b-same-pack numbers f g rest forms forms′ most =
     readPack-padded numbers (f ++ rest) (g ++ rest) most (padded-forms numbers f g rest forms forms′)
 
 pub b-same-placement : (numbers f g rest : List ℕ) → Forms numbers f → Forms numbers g
-    → length numbers ≤ 7 + 2 * getD numbers 3 0
+    → length numbers ≤ 7 + listSize numbers + 2 * getD numbers (3 + listSize numbers) 0
     → Agree SameContent (readPlacement (f ++ rest)) (readPlacement (g ++ rest))
 b-same-placement numbers f g rest forms forms′ most =
     readPlacement-padded numbers (f ++ rest) (g ++ rest) most (padded-forms numbers f g rest forms forms′)
@@ -115,7 +116,7 @@ pub data SameAnswer (at : ℕ) : Outcome → Outcome → Type 0 where
 pack-answers : {c d : Checked (Located Pack)} → Agree SameContent c d
     → SameAnswer 2 (packOutcome (packChecked c)) (packOutcome (packChecked d))
 pack-answers (both-accepted same) =
-    results (ap (λ p. p .n ∷ p .r ∷ []) same) (ap (λ p. headNumbers (fiveHeads (headsOf (p .layers)))) same)
+    results (ap (λ p. p .n ∷ p .r ∷ []) same) (ap (λ p. headNumbers (fiveHeads (headsOf (p .layers))) ++ darkValues (darkOf (p .dark))) same)
 pack-answers (both-refused e) = refusals e
 
 placement-answers : {c d : Checked (Located Placement)} → Agree SameContent c d
@@ -123,23 +124,23 @@ placement-answers : {c d : Checked (Located Placement)} → Agree SameContent c 
 placement-answers (both-accepted same) =
     results
     (ap (λ p. p .kind ∷ p .n ∷ p .r ∷ p .s ∷ p .k ∷ p .b ∷ p .figure ∷ []) same)
-    (ap (λ p. headNumbers (fiveHeads (headsOf (p .layers)))) same)
+    (ap (λ p. headNumbers (fiveHeads (headsOf (p .layers))) ++ darkValues (darkOf (p .dark))) same)
 placement-answers (both-refused e) = refusals e
 
 pub b-same-pack-answer : (numbers f g rest : List ℕ) → Forms numbers f → Forms numbers g
-    → length numbers ≤ 3 + 2 * getD numbers 2 0
+    → length numbers ≤ 3 + listSize numbers + 2 * getD numbers 2 0
     → SameAnswer 2 (packOutcome (packChecked (readPack (f ++ rest)))) (packOutcome (packChecked (readPack (g ++ rest))))
 b-same-pack-answer numbers f g rest forms forms′ most = pack-answers (b-same-pack numbers f g rest forms forms′ most)
 
 pub b-same-placement-answer : (numbers f g rest : List ℕ) → Forms numbers f → Forms numbers g
-    → length numbers ≤ 7 + 2 * getD numbers 3 0
+    → length numbers ≤ 7 + listSize numbers + 2 * getD numbers (3 + listSize numbers) 0
     → SameAnswer 7 (placementOutcome (placementChecked (readPlacement (f ++ rest))))
     (placementOutcome (placementChecked (readPlacement (g ++ rest))))
 b-same-placement-answer numbers f g rest forms forms′ most = placement-answers (b-same-placement numbers f g rest forms forms′ most)
 
 -- Planning from them: the same placement, or refusals with the same number.
 pub b-same-plan : (numbers f g rest : List ℕ) → Forms numbers f → Forms numbers g
-    → length numbers ≤ 3 + 2 * getD numbers 2 0
+    → length numbers ≤ 3 + listSize numbers + 2 * getD numbers 2 0
     → (order : Order) (work output : ℕ)
     → Agree (λ placement other. placement ≡ other) (plan (f ++ rest) order work output) (plan (g ++ rest) order work output)
 b-same-plan numbers f g rest forms forms′ most =

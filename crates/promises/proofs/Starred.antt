@@ -2,7 +2,7 @@
 -- them. Each part is computed in its own crate. Assumes nothing.
 use mathlib.Core.Path.{_≡_, ap}
 use mathlib.Core.List.{[], _∷_, _++_}
-use lib.ListN.{length}
+use lib.ListN.{length, take}
 use Rattle.refusal.specs.Refusals.{result, refusal}
 use Rattle.refusal.specs.Checked.{accepted}
 use Rattle.binomial.specs.Choose.{choose}
@@ -17,8 +17,8 @@ use Rattle.pack.specs.SevenCabinets.{packBytes}
 use Rattle.pack.proofs.Worked.{packs}
 use Rattle.placement.specs.Placement.{readPlacement, placementBytes}
 use Rattle.placement.specs.Answers.{placementChecked, placementOutcome}
-use Rattle.placement.specs.SevenCabinets.{placementFile, sevenPlacement}
-use Rattle.placement.proofs.Worked.{placements, placements-of-kind-3}
+use Rattle.placement.specs.SevenCabinets.{placementFile, listedFile, sevenPlacement}
+use Rattle.placement.proofs.Worked.{placements, placements-of-kind-3, placements-of-kind-5}
 use Rattle.planner.specs.Answers.{planAnswer, planOutcome}
 use Rattle.planner.specs.SevenCabinets.{planP}
 use Rattle.planner.proofs.Worked.{orders}
@@ -41,29 +41,35 @@ pub starred :
     × (packOutcome (packChecked (readPack (packBytes (2 ∷ 4 ∷ 6 ∷ [])))) ≡ refusal 7 27)
     -- with P, the length, F and the counts: s 2, k 2, b 7: F 6. s 2, k 3, b 7: F 4. s 2, k 3, b 9: F 5, counts 2 and 7.
     -- s 2, k 2, b 9: F 7, counts 0 and 9. s 3, k 4, b 7: F 6, by request (d) "where it had 5". s 2, k 2, b 1: F 0
-    × (planOutcome (planAnswer (planP 2 2 7)) ≡ result (32 ∷ 6 ∷ 0 ∷ 7 ∷ 0 ∷ 0 ∷ 0 ∷ []))
-    × (planOutcome (planAnswer (planP 2 3 7)) ≡ result (32 ∷ 4 ∷ 0 ∷ 7 ∷ 0 ∷ 0 ∷ 0 ∷ []))
-    × (planOutcome (planAnswer (planP 2 3 9)) ≡ result (38 ∷ 5 ∷ 2 ∷ 7 ∷ 0 ∷ 0 ∷ 0 ∷ []))
-    × (planOutcome (planAnswer (planP 2 2 9)) ≡ result (38 ∷ 7 ∷ 0 ∷ 9 ∷ 0 ∷ 0 ∷ 0 ∷ []))
-    × (planOutcome (planAnswer (planP 3 4 7)) ≡ result (34 ∷ 6 ∷ 0 ∷ 7 ∷ 0 ∷ 0 ∷ 0 ∷ []))
-    × (planOutcome (planAnswer (planP 2 2 1)) ≡ result (14 ∷ 0 ∷ 0 ∷ 1 ∷ 0 ∷ 0 ∷ 0 ∷ []))
-    -- P's 36 bytes are accepted: n, r, the first block's place, then mu and m of each layer
+    × (planOutcome (planAnswer (planP 2 2 7)) ≡ result (33 ∷ 6 ∷ 0 ∷ 7 ∷ 0 ∷ 0 ∷ 0 ∷ []))
+    × (planOutcome (planAnswer (planP 2 3 7)) ≡ result (33 ∷ 4 ∷ 0 ∷ 7 ∷ 0 ∷ 0 ∷ 0 ∷ []))
+    × (planOutcome (planAnswer (planP 2 3 9)) ≡ result (39 ∷ 5 ∷ 2 ∷ 7 ∷ 0 ∷ 0 ∷ 0 ∷ []))
+    × (planOutcome (planAnswer (planP 2 2 9)) ≡ result (39 ∷ 7 ∷ 0 ∷ 9 ∷ 0 ∷ 0 ∷ 0 ∷ []))
+    × (planOutcome (planAnswer (planP 3 4 7)) ≡ result (35 ∷ 6 ∷ 0 ∷ 7 ∷ 0 ∷ 0 ∷ 0 ∷ []))
+    × (planOutcome (planAnswer (planP 2 2 1)) ≡ result (15 ∷ 0 ∷ 0 ∷ 1 ∷ 0 ∷ 0 ∷ 0 ∷ []))
+    -- P's 36 bytes are accepted: n, r, the first block's place, then mu and m of each layer, and by request (h) an empty list
     × (length (packBytes row245) ≡ 36)
     × (packOutcome (packChecked (readPack (packBytes row245)))
-    ≡ result (7 ∷ 3 ∷ 9 ∷ 1 ∷ 2 ∷ 1 ∷ 7 ∷ 1 ∷ 0 ∷ 0 ∷ 0 ∷ 0 ∷ 0 ∷ []))
-    -- order s = 2, k = 3, b = 9 gives the whole file: 38 bytes, which by request (d) "then begin with 3". They are accepted, and so
-    -- are those that begin with 2: the kind, n, r, s, k, b, F, the first row's place, then lambda and c of each layer. `check`
-    -- prints `accepted 5 9 3 7 4 4` for both
-    × (planP 2 3 9 ≡ accepted (sevenPlacement 3))
-    × (placementBytes (sevenPlacement 3) ≡ placementFile 3 5)
+    ≡ result (7 ∷ 3 ∷ 9 ∷ 1 ∷ 2 ∷ 1 ∷ 7 ∷ 1 ∷ 0 ∷ 0 ∷ 0 ∷ 0 ∷ 0 ∷ 0 ∷ []))
+    -- order s = 2, k = 3, b = 9 gives the whole file: by request (h) "39, beginning 5 7 3 0 2". They are accepted, and so are the 38
+    -- bytes that begin with 2, and by request (d) with 3: the kind, n, r, s, k, b, F, the first row's place, then lambda and c of
+    -- each layer, and the list. `check` prints `accepted 5 9 3 7 4 4` for all three
+    × (planP 2 3 9 ≡ accepted (sevenPlacement 5))
+    × (placementBytes (sevenPlacement 5) ≡ listedFile (0 ∷ []) 5)
+    × (length (listedFile (0 ∷ []) 5) ≡ 39)
+    × (take 5 (listedFile (0 ∷ []) 5) ≡ 5 ∷ 7 ∷ 3 ∷ 0 ∷ 2 ∷ [])
+    × (placementOutcome (placementChecked (readPlacement (listedFile (0 ∷ []) 5)))
+    ≡ result (5 ∷ 7 ∷ 3 ∷ 2 ∷ 3 ∷ 9 ∷ 5 ∷ 12 ∷ 1 ∷ 2 ∷ 1 ∷ 7 ∷ 0 ∷ 0 ∷ 0 ∷ 0 ∷ 0 ∷ 0 ∷ 0 ∷ []))
     × (length (placementFile 2 5) ≡ 38)
     × (placementOutcome (placementChecked (readPlacement (placementFile 3 5)))
-    ≡ result (3 ∷ 7 ∷ 3 ∷ 2 ∷ 3 ∷ 9 ∷ 5 ∷ 11 ∷ 1 ∷ 2 ∷ 1 ∷ 7 ∷ 0 ∷ 0 ∷ 0 ∷ 0 ∷ 0 ∷ 0 ∷ []))
+    ≡ result (3 ∷ 7 ∷ 3 ∷ 2 ∷ 3 ∷ 9 ∷ 5 ∷ 11 ∷ 1 ∷ 2 ∷ 1 ∷ 7 ∷ 0 ∷ 0 ∷ 0 ∷ 0 ∷ 0 ∷ 0 ∷ 0 ∷ []))
     × (placementOutcome (placementChecked (readPlacement (placementFile 2 5)))
-    ≡ result (2 ∷ 7 ∷ 3 ∷ 2 ∷ 3 ∷ 9 ∷ 5 ∷ 11 ∷ 1 ∷ 2 ∷ 1 ∷ 7 ∷ 0 ∷ 0 ∷ 0 ∷ 0 ∷ 0 ∷ 0 ∷ []))
+    ≡ result (2 ∷ 7 ∷ 3 ∷ 2 ∷ 3 ∷ 9 ∷ 5 ∷ 11 ∷ 1 ∷ 2 ∷ 1 ∷ 7 ∷ 0 ∷ 0 ∷ 0 ∷ 0 ∷ 0 ∷ 0 ∷ 0 ∷ []))
     × (checkLine (placementFile 2 5)
     ≡ acceptedWord ++ (32 ∷ 53 ∷ 32 ∷ 57 ∷ 32 ∷ 51 ∷ 32 ∷ 55 ∷ 32 ∷ 52 ∷ 32 ∷ 52 ∷ 10 ∷ []))
     × (checkLine (placementFile 3 5)
+    ≡ acceptedWord ++ (32 ∷ 53 ∷ 32 ∷ 57 ∷ 32 ∷ 51 ∷ 32 ∷ 55 ∷ 32 ∷ 52 ∷ 32 ∷ 52 ∷ 10 ∷ []))
+    × (checkLine (listedFile (0 ∷ []) 5)
     ≡ acceptedWord ++ (32 ∷ 53 ∷ 32 ∷ 57 ∷ 32 ∷ 51 ∷ 32 ∷ 55 ∷ 32 ∷ 52 ∷ 32 ∷ 52 ∷ 10 ∷ []))
 starred = (
   binomials .0,
@@ -85,9 +91,13 @@ starred = (
   packs .2,
   orders .6,
   orders .7,
+  placements-of-kind-5 .0,
+  placements-of-kind-5 .7,
+  placements-of-kind-5 .2,
   placements .0,
   placements-of-kind-3 .1,
   placements .2,
   lines .0,
   lines .1,
+  lines .3,
 )

@@ -20,20 +20,20 @@ pub checkLine-buffer : (input : List ℕ) → checkLine (take 32_768 input) ≡ 
 unfolding checkLine
 checkLine-buffer input = rw (checkPlacement-buffer input)
 
-plan-take : (m : ℕ) (bytes : List ℕ) (order : Order) (work output : ℕ) → 20_532 < m
+plan-take : (m : ℕ) (bytes : List ℕ) (order : Order) (work output : ℕ) → 21_556 < m
     → plan (take m bytes) order work output ≡ plan bytes order work output
 unfolding plan
 plan-take m bytes order work output h = rw (checkPack-take m bytes h)
 
 -- three numbers of 4 bytes each, and a pack
-within-reach : (m : ℕ) (input : List ℕ) → 12 + 20_532 < m → m ≤ length input → planInput (take m input) ≡ planInput input
+within-reach : (m : ℕ) (input : List ℕ) → 12 + 21_556 < m → m ≤ length input → planInput (take m input) ≡ planInput input
 unfolding planInput
 within-reach m input h long =
     bind-congr _ _ _ _ (order-take m input (omega arith) long) λ read e.
     let place = order-place (take m input) e .0 in
     rw (slice-eq-take-drop (read .at) m input) (plan-take (m - read .at) (drop (read .at) input) _ _ _ (omega arith))
 
-planInput-take : (m : ℕ) (input : List ℕ) → 12 + 20_532 < m → planInput (take m input) ≡ planInput input
+planInput-take : (m : ℕ) (input : List ℕ) → 12 + 21_556 < m → planInput (take m input) ≡ planInput input
 planInput-take m input h = take-elim planInput m input (within-reach m input h)
 
 -- No byte after the first 32,768 changes what `plan` writes.

@@ -9,23 +9,25 @@ use Rattle.number.specs.Numbers.{readGroups, readNumber}
 use Rattle.packing.specs.Rows.{member}
 use Rattle.packing.specs.SevenCabinets.{row245}
 use Rattle.pack.specs.SevenCabinets.{packBytes}
-use Rattle.placement.specs.SevenCabinets.{placementFile, sevenPlacement}
-use Rattle.placement.proofs.Worked.{placements, placements-of-kind-3}
+use Rattle.placement.specs.SevenCabinets.{placementFile, listedFile, sevenPlacement}
+use Rattle.placement.proofs.Worked.{placements, placements-of-kind-3, placements-of-kind-5}
 use Rattle.planner.proofs.Worked.{orders}
 use Rattle.report.specs.Load.{halfToEven, mean}
 use Rattle.report.specs.Programs.{digits, decimal, rest, acceptedWord, acceptedLine, summary, orRefusedLine, checkLine, readOrder, planInput, plannedReply, planReply}
 use Rattle.report.specs.Replies.{planSlices, checkInto, planInto}
 
--- "`check` prints `accepted 5 9 3 7 4 4`", for kind 2 and for kind 3; `plan` with the numbers 2 3 9 and then P writes the whole
--- file, of kind 3
+-- "`check` prints `accepted 5 9 3 7 4 4`", for kinds 2, 3 and 5; `plan` with the numbers 2 3 9 and then P writes the whole file, by
+-- request (h) of kind 5
 pub lines : (checkLine (placementFile 2 5) ≡ acceptedWord ++ (32 ∷ 53 ∷ 32 ∷ 57 ∷ 32 ∷ 51 ∷ 32 ∷ 55 ∷ 32 ∷ 52 ∷ 32 ∷ 52 ∷ 10 ∷ []))
     × (checkLine (placementFile 3 5) ≡ acceptedWord ++ (32 ∷ 53 ∷ 32 ∷ 57 ∷ 32 ∷ 51 ∷ 32 ∷ 55 ∷ 32 ∷ 52 ∷ 32 ∷ 52 ∷ 10 ∷ []))
-    × (planReply (2 ∷ 3 ∷ 9 ∷ packBytes row245) ≡ placementFile 3 5)
+    × (planReply (2 ∷ 3 ∷ 9 ∷ packBytes row245) ≡ listedFile (0 ∷ []) 5)
+    × (checkLine (listedFile (0 ∷ []) 5) ≡ acceptedWord ++ (32 ∷ 53 ∷ 32 ∷ 57 ∷ 32 ∷ 51 ∷ 32 ∷ 55 ∷ 32 ∷ 52 ∷ 32 ∷ 52 ∷ 10 ∷ []))
 unfolding count largest upTo flatten member readGroups readNumber packBytes sevenPlacement halfToEven digits decimal rest summary checkLine readOrder planInput plannedReply planReply
 lines = (
   ap (λ a. orRefusedLine (mapAccepted (λ p. acceptedLine (summary p)) a)) (placements .1),
   ap (λ a. orRefusedLine (mapAccepted (λ p. acceptedLine (summary p)) a)) (placements-of-kind-3 .0),
   ap plannedReply (orders .6) ∙ orders .7,
+  ap (λ a. orRefusedLine (mapAccepted (λ p. acceptedLine (summary p)) a)) (placements-of-kind-5 .1),
 )
 
 -- (a) "5 records of 2 replicas on 4 nodes make 2.5 and print 2, where 3 stood; 3.5 prints 4"; 0.5, 1.5, and two means with no
@@ -43,8 +45,8 @@ means = (refl, refl, refl, refl, refl, refl)
 pub lent : (input : List ℕ)
     → (checkInto input 199 ≡ refused (ShortOutput 200))
     × (checkInto input 200 ≡ accepted (checkLine input))
-    × (planInto input 20_484 20_543 ≡ refused (ShortWork 20_485))
-    × (planInto input 20_485 20_543 ≡ refused (ShortOutput 20_544))
-    × (planInto input 20_485 20_544 ≡ accepted (planReply input))
+    × (planInto input 20_484 20_927 ≡ refused (ShortWork 20_485))
+    × (planInto input 20_485 20_927 ≡ refused (ShortOutput 20_928))
+    × (planInto input 20_485 20_928 ≡ accepted (planReply input))
 unfolding planSlices checkInto planInto
 lent input = (refl, refl, refl, refl, refl)

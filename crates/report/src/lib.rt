@@ -9,7 +9,7 @@ pub const LINE_NEEDED: usize = 200;
 pub const WORK_MOST: usize = 20_485;
 
 // The bytes that `plan` asks for: no order needs more.
-pub const OUTPUT_MOST: usize = 20_544;
+pub const OUTPUT_MOST: usize = 20_928;
 
 // What `check` prints of an accepted placement: F, b, k, n, and the largest and the mean load of a node.
 pub struct Summary {

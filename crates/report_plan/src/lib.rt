@@ -11,7 +11,7 @@ use report::Reply;
 use report::WORK_MOST;
 
 // Puts what `plan` writes for the input at the start of `out`, and answers its length; a working slice of fewer than 20,485
-// entries and an output of fewer than 20,544 bytes are refused.
+// entries and an output of fewer than 20,928 bytes are refused.
 pub fn plan_reply(input: &[u8], work: &mut [u16], out: &mut [u8]) -> Reply
     ensures { λ r. ⌜ ReplyDone (planInto (now (input .entry)) (length (now (work .entry))) (length (now (out .entry))))
         (now (out .entry)) (now (out .exit)) r ⌝ }

@@ -3,6 +3,7 @@ use crate::answers;
 use crate::answers::unknown;
 use crate::script::Given;
 use crate::script::Part;
+use crate::script::byte_of;
 use crate::script::part_of;
 use operators::SharedOrder;
 use packing::RowFound;
@@ -37,13 +38,52 @@ fn crowded(rows: &[u8], c: usize, r: usize, x: usize, bound: usize) -> [usize; 1
     crowded_rows(rows, c, r, x, bound)
 }
 
+// Puts the first nodes into the output, one byte each, as far as it reaches.
+fn put_nodes(count: usize, nodes: &[usize], out: &mut [u8]) {
+    let mut i: usize = 0;
+    while i < count {
+        if nodes.len() <= i {
+            return;
+        }
+        if out.len() <= i {
+            return;
+        }
+        out[i] = byte_of(nodes[i]);
+        i += 1;
+    }
+}
+
+// Puts how many nodes are out of service and their numbers into the output, as far as it reaches.
+fn put_list(count: usize, nodes: &[usize], out: &mut [u8]) {
+    put_nodes(1, &[count], out);
+    if 1 <= out.len() {
+        put_nodes(count, nodes, &mut out[1..]);
+    }
+}
+
+// Checking a pack; its list is put into the output.
+fn pack(input: &[u8], out: &mut [u8]) -> [usize; 19] {
+    let check = pack_code::check_pack(input);
+    let dark = check.dark;
+    let nodes = dark.nodes;
+    put_list(dark.count, &nodes, out);
+    answers::pack_checked(check)
+}
+
+// Checking a placement; its list is put into the output.
+fn placement(input: &[u8], out: &mut [u8]) -> [usize; 19] {
+    let check = placement_code::check_placement(input);
+    let dark = check.dark;
+    let nodes = dark.nodes;
+    put_list(dark.count, &nodes, out);
+    answers::placement_checked(check)
+}
+
 // The calls that write nothing.
 fn told(call: usize, given: Given, input: &[u8]) -> [usize; 19] {
     match call {
         4 => answers::number_read(number_code::read_number(input, given.a)),
         5 => answers::number_read(number_code::read_within(input, given.a, given.b, given.c)),
-        6 => answers::pack_checked(pack_code::check_pack(input)),
-        7 => answers::placement_checked(placement_code::check_placement(input)),
         8 => crowded(input, given.a, given.b, given.c, given.d),
         _ => unknown(),
     }
@@ -124,6 +164,8 @@ pub(crate) fn answer(
     out: &mut [u8],
 ) -> [usize; 19] {
     match call {
+        6 => pack(input, out),
+        7 => placement(input, out),
         9 => answers::number_written(number_writer::write_number(out, given.a)),
         10 => plan(given, input, work, out),
         11 => crate::walks::walked(input, out),

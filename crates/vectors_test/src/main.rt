@@ -12,7 +12,7 @@ use script::Head;
 use script::Part;
 
 // How many bytes or entries the longest lent slice has.
-const LENT_MOST: usize = 20_600;
+const LENT_MOST: usize = 21_000;
 
 // What the call answers, lent as many entries and bytes as the vector says.
 fn lend(call: usize, given: Given, input: &[u8], work: &mut [u16], out: &mut [u8]) -> [usize; 19] {

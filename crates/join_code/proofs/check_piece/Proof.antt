@@ -1,5 +1,6 @@
 -- `join_code::check_piece` meets its contract. Assumes nothing.
 use borrow.Author.Needs.{needs}
+use Rattle.layers.specs.Answers.{nodesArray}
 use Rattle.join_code.proofs.check_piece.Statement.{statement}
 use Rattle.join_code.proofs.check_piece.Tie as tie
 
@@ -10,6 +11,7 @@ returns : tie.Need-returns
 returns c = rw (c .before .if1 .taken) (c .check-pack .ensures)
 
 returns-2 : tie.Need-returns-2
+unfolding nodesArray
 returns-2 c = rw (c .if1 .left)
 
 pub check-piece-spec : {M : Type 1} → statement M

@@ -72,19 +72,19 @@ returns-5 c =
 
 join-estate-requires : tie.Need-join-estate-requires
 join-estate-requires c κs =
-    let start = c .before .before .before .before .before .before .before .before .before .before .before .before .before .before .before .before .before .before .before .before .before .before .before .before in
+    let start = c .before .before .before .before .before .before .before .before .before .before .before .before .before .before .before .before .before .before .before .before .before .before .before .before .before .before .before in
     let a = start .args in
-    estate-fits (a .first .now) (a .second .now) (a .third .now) (a .out .now) (a .packs) (start .pre .0) (start .pre .1) (c .before .before .before .before .before .before .before .before .before .before .before .before .before .before .before .before .before .before .before .check-piece .ensures) (c .before .before .before .before .before .before .before .before .before .before .before .before .before .before .before .before .before .a-answer .given .1) (c .before .before .before .before .before .before .before .before .before .before .before .before .before .before .before .check-piece2 .ensures) (c .before .before .before .before .before .before .before .before .before .before .before .before .before .b-answer .given .1) (c .before .before .before .before .before .before .before .before .before .before .before .check-piece3 .ensures) (c .before .before .before .before .before .before .before .before .before .c-answer .given .1) (c .before .before .before .before .before .before .if1 .left) (c .before .before .before .before .if2 .left)
+    estate-fits (a .first .now) (a .second .now) (a .third .now) (a .out .now) (a .packs) (start .pre .0) (start .pre .1) (c .before .before .before .before .before .before .before .before .before .before .before .before .before .before .before .before .before .before .before .before .before .before .check-piece .ensures) (c .before .before .before .before .before .before .before .before .before .before .before .before .before .before .before .before .before .before .before .before .a-answer .given .1) (c .before .before .before .before .before .before .before .before .before .before .before .before .before .before .before .before .before .before .check-piece2 .ensures) (c .before .before .before .before .before .before .before .before .before .before .before .before .before .before .before .before .b-answer .given .1) (c .before .before .before .before .before .before .before .before .before .before .before .before .before .before .check-piece3 .ensures) (c .before .before .before .before .before .before .before .before .before .before .before .before .c-answer .given .1) (c .before .before .before .before .before .before .before .before .before .if1 .left) (c .before .before .before .before .before .before .before .if2 .left)
 
 same-length : tie.Need-same-length
 same-length c = search needs
 
 returns-6 : tie.Need-returns-6
 returns-6 c =
-    let start = c .before .before .before .before .before .before .before .before .before .before .before .before .before .before .before .before .before .before .before .before .before .before .before .before .before .before .before in
+    let start = c .before .before .before .before .before .before .before .before .before .before .before .before .before .before .before .before .before .before .before .before .before .before .before .before .before .before .before .before .before .before in
     let a = start .args in
     let made = c .before .before .join-estate in
-    found-done (a .first .now) (a .second .now) (a .third .now) (a .out .now) (a .packs) (start .pre .0) (start .pre .1) (c .before .before .before .before .before .before .before .before .before .before .before .before .before .before .before .before .before .before .before .before .before .before .check-piece .ensures) (c .before .before .before .before .before .before .before .before .before .before .before .before .before .before .before .before .before .before .before .before .a-answer .given .1) (c .before .before .before .before .before .before .before .before .before .before .before .before .before .before .before .before .before .before .check-piece2 .ensures) (c .before .before .before .before .before .before .before .before .before .before .before .before .before .before .before .before .b-answer .given .1) (c .before .before .before .before .before .before .before .before .before .before .before .before .before .before .check-piece3 .ensures) (c .before .before .before .before .before .before .before .before .before .before .before .before .c-answer .given .1) (c .before .before .before .before .before .before .before .before .before .if1 .left) (c .before .before .before .before .before .before .before .if2 .left)
+    found-done (a .first .now) (a .second .now) (a .third .now) (a .out .now) (a .packs) (start .pre .0) (start .pre .1) (c .before .before .before .before .before .before .before .before .before .before .before .before .before .before .before .before .before .before .before .before .before .before .before .before .before .check-piece .ensures) (c .before .before .before .before .before .before .before .before .before .before .before .before .before .before .before .before .before .before .before .before .before .before .before .a-answer .given .1) (c .before .before .before .before .before .before .before .before .before .before .before .before .before .before .before .before .before .before .before .before .before .check-piece2 .ensures) (c .before .before .before .before .before .before .before .before .before .before .before .before .before .before .before .before .before .before .before .b-answer .given .1) (c .before .before .before .before .before .before .before .before .before .before .before .before .before .before .before .before .before .check-piece3 .ensures) (c .before .before .before .before .before .before .before .before .before .before .before .before .before .before .before .c-answer .given .1) (c .before .before .before .before .before .before .before .before .before .before .before .before .if1 .left) (c .before .before .before .before .before .before .before .before .before .before .if2 .left)
     (made .last .1 .1 .1 .1 .0) (made .result) (made .ensures)
 
 pub join-packs-spec : {M : Type 1} → statement M

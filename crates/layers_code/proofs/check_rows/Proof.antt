@@ -1,9 +1,10 @@
 -- `layers_code::check_rows` meets its contract: each return is a case of `checkRows`, over what the counting of rows, the test
--- of their order and the packing test ensure. Assumes nothing.
-use Prim.Native.Nat.{_*_, _^_, _≤_, _<_}
+-- of their order, of the nodes out of service and the packing test ensure. Assumes nothing.
+use Prim.Native.Nat.{_+_, _*_, _^_, _≤_, _<_}
 use native.Mathlib.Omega.{arith}
+use mathlib.Core.Path.{_≡_}
 use lib.ListN.{length}
-use Rattle.layers_code.proofs.RowsAnswers.{rows-small, rows-short, rows-long, rows-unordered, rows-ordered, rows-left}
+use Rattle.layers_code.proofs.RowsAnswers.{rows-small, rows-short, rows-long, rows-unordered, rows-ordered, rows-dark, rows-left}
 use borrow.Author.Needs.{needs}
 use Rattle.layers_code.proofs.check_rows.Statement.{statement}
 use Rattle.layers_code.proofs.check_rows.Tie as tie
@@ -51,24 +52,50 @@ returns-3 c =
 enum-told : tie.Need-enum-told
 enum-told c = search needs
 
+-- the rows are all the bytes from `at` on
+ends : (c : tie.After-check-ascending)
+    → let a = c .before .before .before .before .before .args in
+    a .at + c .before .before .before .count-rows .result * a .base .r ≡ length (a .bytes .now)
+ends c = omega (arith, c .before .if2 .left, c .before .before .if1 .left)
+
+check-service-requires : tie.Need-check-service-requires
+check-service-requires c κs =
+    let order = c .before .before in
+    (omega (arith, ends order), order .before .before .before .before .before .pre .1 .1)
+
+enum-known-service : tie.Need-enum-known-service
+enum-known-service c = search needs
+
+returns-4 : tie.Need-returns-4
+returns-4 c =
+    let service = c .before .before .before in
+    let order = service .before .before .before in
+    rows-dark _ _ _ _ _ (order .before .before .before .count-rows .ensures) (ends order) _ (order .check-ascending .ensures)
+    (service .before .enum-told .given .1) _ (service .check-service .ensures) (c .before .service .given .1)
+
+enum-told-2 : tie.Need-enum-told-2
+enum-told-2 c = search needs
+
 check-packings-requires : tie.Need-check-packings-requires
 check-packings-requires c κs =
-    let order = c .before .before in
+    let service = c .before .before in
+    let order = service .before .before .before in
     let counted = order .before .before .before in
     let p = counted .before .before .pre in
     record {
       few = p .0 .0;
       r-most = p .0 .1;
-      rows-most = p .1;
+      rows-most = p .1 .0;
       within = rw (← counted .count-rows .ensures) (omega (arith, order .before .before .if1 .left));
-      ordered = rows-ordered _ _ _ _ _ (counted .count-rows .ensures) (omega (arith, order .before .if2 .left, order .before .before .if1 .left)) _ (order .check-ascending .ensures) (c .enum-told .given .1);
+      ordered = rows-ordered _ _ _ _ _ (counted .count-rows .ensures) (ends order) _ (order .check-ascending .ensures) (service .before .enum-told .given .1);
     }
 
-returns-4 : tie.Need-returns-4
-returns-4 c =
-    let order = c .before .before .before in
-    rows-left _ _ _ _ _ (order .before .before .before .count-rows .ensures) (omega (arith, order .before .if2 .left, order .before .before .if1 .left)) _
-    (order .check-ascending .ensures) (c .before .enum-told .given .1) (c .check-packings .ensures)
+returns-5 : tie.Need-returns-5
+returns-5 c =
+    let service = c .before .before .before in
+    let order = service .before .before .before in
+    rows-left _ _ _ _ _ (order .before .before .before .count-rows .ensures) (ends order) _ (order .check-ascending .ensures)
+    (service .before .enum-told .given .1) _ (service .check-service .ensures) (c .before .enum-told2 .given .1) (c .check-packings .ensures)
 
 pub check-rows-spec : {M : Type 1} → statement M
 check-rows-spec =
@@ -83,5 +110,9 @@ check-rows-spec =
     enum-known-order
     returns-3
     enum-told
+    check-service-requires
+    enum-known-service
+    returns-4
+    enum-told-2
     check-packings-requires
-    returns-4)
+    returns-5)

@@ -2,7 +2,7 @@
 -- the blocks ensure. Assumes nothing.
 use native.Mathlib.Omega.{arith}
 use mathlib.Core.Path.{_∙_}
-use Rattle.pack_code.proofs.Checking.{pack-base-limits, blocks-asked, pack-no-base, pack-no-layers, pack-no-rows, pack-good}
+use Rattle.pack_code.proofs.Checking.{pack-base, blocks-asked, pack-no-base, pack-no-layers, pack-no-rows, pack-good}
 use borrow.Author.Needs.{needs}
 use Rattle.pack_code.proofs.check_pack.Statement.{statement}
 use Rattle.pack_code.proofs.check_pack.Tie as tie
@@ -25,7 +25,7 @@ enum-told c = search needs
 
 read-layers-requires : tie.Need-read-layers-requires
 read-layers-requires c κs =
-    pack-base-limits _ _ (c .before .before .before .read-base .ensures) (c .before .enum-told .given .1) .r-most
+    pack-base _ _ (c .before .before .before .read-base .ensures) (c .before .enum-told .given .1) .held .limits .r-most
 
 enum-known-numbers-verdict : tie.Need-enum-known-numbers-verdict
 enum-known-numbers-verdict c = search needs
@@ -47,10 +47,10 @@ check-rows-requires : tie.Need-check-rows-requires
 check-rows-requires c κs =
     let l = c .before in
     let b = l .before .before .before .before in
-    let base = pack-base-limits _ _ (b .before .before .read-base .ensures) (b .enum-told .given .1) in
+    let base = pack-base _ _ (b .before .before .read-base .ensures) (b .enum-told .given .1) in
     let asked = blocks-asked _ _ (b .before .before .read-base .ensures) (b .enum-told .given .1) _ (l .before .before .read-layers .ensures)
     (l .enum-told2 .given .1) in
-    ((omega arith, base .r-most, asked .0), asked .1)
+    ((omega arith, base .held .limits .r-most, asked .0), (asked .1, base .fits))
 
 enum-known-rows-verdict : tie.Need-enum-known-rows-verdict
 enum-known-rows-verdict c = search needs
@@ -71,10 +71,11 @@ enum-told-3 c = search needs
 
 returns-4 : tie.Need-returns-4
 returns-4 c =
-    let l = c .before .before .before .before in
+    let rows = c .before in
+    let l = rows .before .before .before .before in
     let b = l .before .before .before .before in
     pack-good _ _ (b .before .before .read-base .ensures) (b .enum-told .given .1) _ (l .before .before .read-layers .ensures)
-    (l .enum-told2 .given .1) _ (c .before .before .check-rows .ensures) (c .enum-told3 .given .1)
+    (l .enum-told2 .given .1) _ (rows .before .before .check-rows .ensures) (rows .enum-told3 .given .1)
 
 pub check-pack-spec : {M : Type 1} → statement M
 check-pack-spec =

@@ -5,9 +5,9 @@ use mathlib.Core.Path.{_≡_, refl, _∙_}
 use Rattle.refusal.specs.Checked.{accepted}
 use Rattle.refusal.proofs.Checked.{verdict-good, verdict-refused}
 use Rattle.layers.specs.Layers.{readBase, checkRows}
+use Rattle.layers.specs.Answers.{siteOf}
 use Rattle.layers.specs.declared.FileKind.the-variants.{Placement as PlacementKind}
-use Rattle.layers.proofs.Heads.{reads-of-readBase}
-use Rattle.layers.proofs.Answered.{LayersGood, base-refused, base-good, layers-refused, layers-good}
+use Rattle.layers.proofs.Answered.{BaseGood, LayersGood, base-refused, base-good, layers-refused, layers-good}
 use Rattle.placement.specs.Placement.{placementLayerLimits, readTerms}
 use Rattle.placement.proofs.Answered.{terms-refused, terms-good}
 use Rattle.placement_code.proofs.Checking.{order-limits, placement-rows-asked, figure-asked, placement-no-base, no-terms, placement-no-layers, placement-no-rows, wrong-figure, right-figure}
@@ -25,13 +25,17 @@ refuse-requires : tie.Need-refuse-requires
 refuse-requires c κs = search needs
 
 -- what was read and found good before a place
+good-base : (c : tie.After-enum-told) → BaseGood PlacementKind (c .before .before .before .before .args .bytes .now) (c .before .before .read-base .result)
+good-base c = base-good PlacementKind _ (c .before .before .read-base .ensures) (c .enum-told .given .1)
+
 base-of : (c : tie.After-enum-told) → let head = c .before .before .read-base .result in
-    readBase PlacementKind (c .before .before .before .before .args .bytes .now) ≡ accepted (record { kind = head .kind; base = head .base; next = head .next })
-base-of c = base-good _ (c .before .before .read-base .ensures) (c .enum-told .given .1)
+    readBase PlacementKind (c .before .before .before .before .args .bytes .now)
+    ≡ accepted (record { kind = head .kind; base = siteOf (head .base); next = head .next })
+base-of c = good-base c .accepts
 
 terms-of : (c : tie.After-enum-told2) → let read = c .before .before .read-terms .result in
     let head = c .before .before .before .before .before .before .read-base .result in
-    readTerms (head .base) (c .before .before .before .before .before .before .before .before .args .bytes .now) (head .next)
+    readTerms (siteOf (head .base)) (c .before .before .before .before .before .before .before .before .args .bytes .now) (head .next)
     ≡ accepted (record { terms = read .terms; next = read .next })
 terms-of c = terms-good _ (c .before .before .read-terms .ensures) (c .enum-told2 .given .1)
 
@@ -54,7 +58,7 @@ enum-told c = search needs
 
 read-terms-requires : tie.Need-read-terms-requires
 read-terms-requires c κs =
-    omega (arith, reads-of-readBase PlacementKind _ (base-of (c .before)) .1 .n-least)
+    omega (arith, good-base (c .before) .held .limits .n-least)
 
 enum-known-read-verdict : tie.Need-enum-known-read-verdict
 enum-known-read-verdict c = search needs
@@ -98,7 +102,8 @@ check-rows-requires : tie.Need-check-rows-requires
 check-rows-requires c κs =
     let l = c .before in
     let o = l .before .before .before .before in
-    placement-rows-asked _ (base-of (o .before .before .before .before)) (terms-of o) (layers-of l)
+    let asked = placement-rows-asked _ (base-of (o .before .before .before .before)) (terms-of o) (layers-of l) in
+    (asked .0, (asked .1, good-base (o .before .before .before .before) .fits))
 
 enum-known-rows-verdict : tie.Need-enum-known-rows-verdict
 enum-known-rows-verdict c = search needs
@@ -141,12 +146,14 @@ returns-5 c =
 
 returns-6 : tie.Need-returns-6
 returns-6 c =
-    let r = c .before .before .before .before in
+    let f = c .before in
+    let r = f .before .before .before .before in
     let l = r .before .before .before .before in
     let o = l .before .before .before .before in
-    right-figure _ (base-of (o .before .before .before .before)) (terms-of o) (layers-of l)
+    let b = o .before .before .before .before in
+    right-figure _ (base-of b) (terms-of o) (layers-of l)
     (verdict-good (checkRows _ _ _ _) (r .before .before .check-rows .ensures) (r .enum-told4 .given .1) .1)
-    (c .before .before .figure-of .ensures ∙ rw (c .before .before .before .rule-of .ensures) refl) (c .if1 .left)
+    (f .before .before .figure-of .ensures ∙ rw (f .before .before .before .rule-of .ensures) refl) (f .if1 .left) (good-base b .array)
 
 pub check-placement-spec : {M : Type 1} → statement M
 check-placement-spec =

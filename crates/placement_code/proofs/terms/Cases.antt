@@ -6,10 +6,10 @@ use Rattle.refusal.specs.declared.Refusal.{Refusal}
 use Rattle.refusal.specs.Checked.{accepted, refused}
 use Rattle.number.specs.Numbers.{readWithin}
 use Rattle.number.specs.declared.Reading.{Reading}
-use Rattle.layers.specs.declared.Base.{Base}
+use Rattle.layers.specs.Layers.{Site}
 use Rattle.placement.specs.Placement.{readTerms}
 
-module _ (base : Base) (bytes : List ℕ) (at : ℕ) where
+module _ (base : Site) (bytes : List ℕ) (at : ℕ) where
   pub no-s : {e : Refusal} → readWithin 1 (base .r) bytes at ≡ refused e → readTerms base bytes at ≡ refused e
   unfolding readTerms
   no-s h = rw h

@@ -22,10 +22,10 @@ enum-known-answer-2 c = search needs
 
 -- the pack that the check found
 found : (c : tie.After-answer2)
-    → let checked = c .before .before .before in
-    PackFound (checked .before .before .before .before .args .pack .now) (c .answer2 .given .0 .0) (checked .check-pack .result .layers)
+    → let checked = c .before .before .before .before in
+    PackFound (checked .before .before .before .before .args .pack .now) (c .answer2 .given .0 .0) (checked .check-pack .result .layers) (checked .check-pack .result .dark)
 found c =
-    let checked = c .before .before .before in
+    let checked = c .before .before .before .before in
     check-accepted (checked .before .before .before .before .args .pack .now) (checked .check-pack .ensures) (c .answer2 .given .1)
 
 sub-plan-pack : tie.Need-sub-plan-pack
@@ -43,7 +43,7 @@ plan-pack-requires c κs = found (c .before .before .before .before) .held
 returns : tie.Need-returns
 unfolding plan
 returns c =
-    let checked = c .before .before .before .before .before in
+    let checked = c .before .before .before .before .before .before in
     let a = checked .before .before .before .before .args in
     refused-done (a .work .now) (a .out .now)
     (rw (check-refused (a .pack .now) (checked .check-pack .ensures) (c .before .before .answer .given .1)))

@@ -2,11 +2,14 @@
 use Prim.Native.Nat.{_-_}
 use native.Mathlib.Omega.{arith}
 use mathlib.Core.Path.{_≡_, _∙_, ap}
+use mathlib.Core.Bool.{not}
 use lib.ListN.{length, take, drop}
 use Rattle.lists.proofs.Writing.{take-drop-rest}
 use Rattle.refusal.specs.declared.Refusal.the-variants.{BadRow}
 use Rattle.refusal.specs.declared.Verdict.the-variants.{Refused}
-use Rattle.layers_code.proofs.ascending.Bad.{bad-place, bad-row, none-bad}
+use Rattle.packing.specs.Rows.{inOrder, firstBad}
+use Rattle.layers.specs.Layers.{checkAscending}
+use Rattle.layers_code.proofs.FirstRow.{row-place, row-refused, no-row}
 use borrow.Author.Needs.{needs}
 use Rattle.layers_code.proofs.ascending.check_ascending.Statement.{statement}
 use Rattle.layers_code.proofs.ascending.check_ascending.Tie as tie
@@ -33,29 +36,32 @@ part : (c : tie.After-shared-slice-known)
 part c = take-drop-rest (c .before .args .bytes .now) (c .before .args .at)
 
 row-start-requires : tie.Need-row-start-requires
+unfolding firstBad
 row-start-requires c κs =
     let l = c .before .before .before .before .before in
     let a = l .before .args in
-    let place = bad-place (a .base) (a .bytes .now) (a .at) (a .rows) _ (part l) _ (c .before .before .before .first-bad .ensures)
+    let place = row-place BadRow (λ row. not (inOrder (a .base .n) row)) (a .base .r) (a .bytes .now) (a .at) (a .rows) _ (part l) _ (c .before .before .before .first-bad .ensures)
     (c .before .bad .given .1) in
     omega (arith, l .before .pre, l .before .good .0)
 
 returns : tie.Need-returns
+unfolding firstBad checkAscending
 returns c =
     let l = c .before .before .before .before .before .before in
     let a = l .before .args in
     ap (λ place. Refused (BadRow place)) (c .row-start .ensures)
-    ∙ bad-row (a .base) (a .bytes .now) (a .at) (a .rows) _ (part l) _ (c .before .before .before .before .first-bad .ensures)
+    ∙ row-refused BadRow (λ row. not (inOrder (a .base .n) row)) (a .base .r) (a .bytes .now) (a .at) (a .rows) _ (part l) _ (c .before .before .before .before .first-bad .ensures)
     (c .before .before .bad .given .1)
 
 enum-told : tie.Need-enum-told
 enum-told c = search needs
 
 returns-2 : tie.Need-returns-2
+unfolding firstBad checkAscending
 returns-2 c =
     let l = c .before .before .before .before in
     let a = l .before .args in
-    none-bad (a .base) (a .bytes .now) (a .at) (a .rows) _ (part l) _ (c .before .before .first-bad .ensures) (c .enum-told .given .1)
+    no-row BadRow (λ row. not (inOrder (a .base .n) row)) (a .base .r) (a .bytes .now) (a .at) (a .rows) _ (part l) _ (c .before .before .first-bad .ensures) (c .enum-told .given .1)
 
 pub check-ascending-spec : {M : Type 1} → statement M
 check-ascending-spec =

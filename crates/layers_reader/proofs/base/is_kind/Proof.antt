@@ -7,8 +7,11 @@ use Rattle.layers_reader.proofs.base.is_kind.Tie as tie
 enum-told : tie.Need-enum-told
 enum-told c = search needs
 
+is-pack-requires : tie.Need-is-pack-requires
+is-pack-requires c κs = search needs
+
 returns : tie.Need-returns
-returns c = rw (c .enum-told .given .1)
+returns c = rw (c .before .enum-told .given .1) (c .is-pack .ensures)
 
 enum-told-2 : tie.Need-enum-told-2
 enum-told-2 c = search needs
@@ -17,7 +20,10 @@ returns-2 : tie.Need-returns-2
 returns-2 c = rw (c .before .enum-told2 .given .1, eq-eqb _ 2 (c .if1 .taken))
 
 returns-3 : tie.Need-returns-3
-returns-3 c = rw (c .before .enum-told2 .given .1, ne-eqb _ 2 (c .if1 .left))
+returns-3 c = rw (c .before .before .enum-told2 .given .1, ne-eqb _ 2 (c .before .if1 .left), eq-eqb _ 3 (c .if2 .taken))
+
+returns-4 : tie.Need-returns-4
+returns-4 c = rw (c .before .before .enum-told2 .given .1, ne-eqb _ 2 (c .before .if1 .left), ne-eqb _ 3 (c .if2 .left))
 
 pub is-kind-spec : {M : Type 1} → statement M
-is-kind-spec = tie.close (tie.spec enum-told returns enum-told-2 returns-2 returns-3)
+is-kind-spec = tie.close (tie.spec enum-told is-pack-requires returns enum-told-2 returns-2 returns-3 returns-4)

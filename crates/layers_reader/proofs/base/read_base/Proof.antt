@@ -1,13 +1,14 @@
 -- `layers_reader::base::read_base` meets its contract: each return is a case of `readBase`, over what the readings of the
 -- numbers ensure. Assumes nothing.
 use Prim.Native.Nat.{min}
+use native.Mathlib.Omega.{arith}
 use mathlib.Core.Path.{sym, _∙_, ap}
 use borrow.Author.Needs.{needs}
 use Rattle.number.specs.Numbers.{readWithin}
-use Rattle.number.proofs.Within.{was-read, was-refused}
+use Rattle.number.proofs.Within.{was-read, was-refused, read-of-readWithin}
 use Rattle.layers.specs.Layers.{readKind}
 use Rattle.layers.specs.Answers.{baseRead}
-use Rattle.layers_reader.proofs.base.Based.{base-no-kind, base-no-n, base-no-r, base-read}
+use Rattle.layers_reader.proofs.base.Based.{base-no-kind, base-no-n, base-no-r, list-refused, list-good}
 use Rattle.layers_reader.proofs.base.read_base.Statement.{statement}
 use Rattle.layers_reader.proofs.base.read_base.Tie as tie
 
@@ -88,17 +89,51 @@ returns-3 c =
     (c .before .before .enum-told3 .given .1) (c .before .refusal-of3 .ensures) in
     c .refuse3 .ensures ∙ sym (ap baseRead (base-no-r (a .file) (a .bytes .now) kind-read n-read no-r))
 
+read-dark-requires : tie.Need-read-dark-requires
+read-dark-requires c κs =
+    let n = c .before .before .before .before .before .before in
+    let bytes = n .before .before .before .before .before .before .before .before .args .bytes .now in
+    let n-read = was-read (readWithin 2 255 bytes _) (n .before .before .read-within .ensures) (n .second .given .1) in
+    let (read, least, most) = read-of-readWithin 2 255 bytes _ n-read in
+    (omega arith, most)
+
+enum-known-list-verdict : tie.Need-enum-known-list-verdict
+enum-known-list-verdict c = search needs
+
+refuse-requires-4 : tie.Need-refuse-requires-4
+refuse-requires-4 c κs = search needs
+
 returns-4 : tie.Need-returns-4
 returns-4 c =
-    let r = c .before .before .before in
+    let list = c .before .before .before .before in
+    let r = list .before .before .before .before in
     let n = r .before .before .before in
     let kind = n .before .before .before .before in
     let a = kind .before .before .before .before .args in
     let kind-read = was-read (readKind (a .file) (a .bytes .now)) (kind .before .before .read-kind .ensures) (kind .first .given .1) in
     let n-read = was-read (readWithin 2 255 (a .bytes .now) _) (n .before .before .read-within .ensures) (n .second .given .1) in
     let r-read = was-read (readWithin 2 (min 5 _) (a .bytes .now) _) (rw (r .before .smaller .ensures) at (r .read-within2 .ensures))
-    (c .before .third .given .1) in
-    sym (ap baseRead (base-read (a .file) (a .bytes .now) kind-read n-read r-read))
+    (list .before .before .third .given .1) in
+    c .refuse4 .ensures
+    ∙ sym
+    (ap baseRead
+    (list-refused (a .file) (a .bytes .now) kind-read n-read r-read (list .read-dark .ensures) (c .before .before .list-verdict .given .1)))
+
+enum-told-4 : tie.Need-enum-told-4
+enum-told-4 c = search needs
+
+returns-5 : tie.Need-returns-5
+returns-5 c =
+    let list = c .before .before .before in
+    let r = list .before .before .before .before in
+    let n = r .before .before .before in
+    let kind = n .before .before .before .before in
+    let a = kind .before .before .before .before .args in
+    let kind-read = was-read (readKind (a .file) (a .bytes .now)) (kind .before .before .read-kind .ensures) (kind .first .given .1) in
+    let n-read = was-read (readWithin 2 255 (a .bytes .now) _) (n .before .before .read-within .ensures) (n .second .given .1) in
+    let r-read = was-read (readWithin 2 (min 5 _) (a .bytes .now) _) (rw (r .before .smaller .ensures) at (r .read-within2 .ensures))
+    (list .before .before .third .given .1) in
+    list-good (a .file) (a .bytes .now) kind-read n-read r-read (list .read-dark .ensures) (c .before .enum-told4 .given .1)
 
 pub read-base-spec : {M : Type 1} → statement M
 read-base-spec =
@@ -123,4 +158,9 @@ read-base-spec =
     refusal-of-requires-3
     refuse-requires-3
     returns-3
-    returns-4)
+    read-dark-requires
+    enum-known-list-verdict
+    refuse-requires-4
+    returns-4
+    enum-told-4
+    returns-5)

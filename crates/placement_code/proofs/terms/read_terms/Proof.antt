@@ -5,6 +5,7 @@ use mathlib.Core.Path.{_≡_, sym, _∙_, ap}
 use Rattle.refusal.specs.Checked.{accepted}
 use Rattle.number.specs.Numbers.{readWithin}
 use Rattle.number.proofs.Within.{was-read, was-refused}
+use Rattle.layers.specs.Answers.{siteOf}
 use Rattle.placement.specs.Answers.{termsRead}
 use Rattle.placement_code.proofs.terms.Cases.{no-s, no-k, no-b, no-figure, all-read}
 use borrow.Author.Needs.{needs}
@@ -46,7 +47,7 @@ returns c =
     let a = c .before .before .before .before .before .before .args in
     let none = was-refused (readWithin 1 (a .base .r) (a .bytes .now) (a .at)) (c .before .before .before .before .read-within .ensures)
     (c .before .before .enum-told .given .1) (c .before .refusal-of .ensures) in
-    c .refuse .ensures ∙ sym (ap termsRead (no-s (a .base) (a .bytes .now) (a .at) none))
+    c .refuse .ensures ∙ sym (ap termsRead (no-s (siteOf (a .base)) (a .bytes .now) (a .at) none))
 
 sub-read-within : tie.Need-sub-read-within
 sub-read-within c = search needs
@@ -72,7 +73,7 @@ returns-2 c =
     let a = s .before .before .before .before .args in
     let none = was-refused (readWithin _ (a .base .n - 1) (a .bytes .now) _) (c .before .before .before .before .read-within2 .ensures)
     (c .before .before .enum-told2 .given .1) (c .before .refusal-of2 .ensures) in
-    c .refuse2 .ensures ∙ sym (ap termsRead (no-k (a .base) (a .bytes .now) (a .at) (s-read s) none))
+    c .refuse2 .ensures ∙ sym (ap termsRead (no-k (siteOf (a .base)) (a .bytes .now) (a .at) (s-read s) none))
 
 read-within-requires-3 : tie.Need-read-within-requires-3
 read-within-requires-3 c κs = search needs
@@ -96,7 +97,7 @@ returns-3 c =
     let a = s .before .before .before .before .args in
     let none = was-refused (readWithin 1 4_096 (a .bytes .now) _) (c .before .before .before .before .read-within3 .ensures)
     (c .before .before .enum-told3 .given .1) (c .before .refusal-of3 .ensures) in
-    c .refuse3 .ensures ∙ sym (ap termsRead (no-b (a .base) (a .bytes .now) (a .at) (s-read s) (k-read k) none))
+    c .refuse3 .ensures ∙ sym (ap termsRead (no-b (siteOf (a .base)) (a .bytes .now) (a .at) (s-read s) (k-read k) none))
 
 read-within-requires-4 : tie.Need-read-within-requires-4
 read-within-requires-4 c κs = search needs
@@ -121,7 +122,7 @@ returns-4 c =
     let a = s .before .before .before .before .args in
     let none = was-refused (readWithin 0 _ (a .bytes .now) _) (c .before .before .before .before .read-within4 .ensures)
     (c .before .before .enum-told4 .given .1) (c .before .refusal-of4 .ensures) in
-    c .refuse4 .ensures ∙ sym (ap termsRead (no-figure (a .base) (a .bytes .now) (a .at) (s-read s) (k-read k) (b-read b) none))
+    c .refuse4 .ensures ∙ sym (ap termsRead (no-figure (siteOf (a .base)) (a .bytes .now) (a .at) (s-read s) (k-read k) (b-read b) none))
 
 returns-5 : tie.Need-returns-5
 returns-5 c =
@@ -130,7 +131,7 @@ returns-5 c =
     let s = k .before .before .before .before in
     let a = s .before .before .before .before .args in
     let figure-read = was-read (readWithin 0 _ (a .bytes .now) _) (c .before .before .before .read-within4 .ensures) (c .before .fourth .given .1) in
-    sym (ap termsRead (all-read (a .base) (a .bytes .now) (a .at) (s-read s) (k-read k) (b-read b) figure-read))
+    sym (ap termsRead (all-read (siteOf (a .base)) (a .bytes .now) (a .at) (s-read s) (k-read k) (b-read b) figure-read))
 
 pub read-terms-spec : {M : Type 1} → statement M
 read-terms-spec =

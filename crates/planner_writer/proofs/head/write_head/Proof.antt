@@ -1,63 +1,64 @@
--- `planner_writer::head::write_head` meets its contract: the first numbers of the head's array are written. Assumes nothing.
-use Prim.Native.Nat.{ℕ, _+_, _*_, _-_}
-use mathlib.Core.Path.{_≡_, _∙_, ap}
-use mathlib.Core.List.{List}
-use lib.ListN.{take, drop}
+-- `planner_writer::head::write_head` meets its contract: what every file with a list begins with, and its own numbers after it. Assumes nothing.
+use native.Mathlib.Omega.{arith}
 use borrow.Author.Needs.{needs}
-use Rattle.planner.specs.Writing.{writtenNumbers}
-use Rattle.planner_writer.proofs.head.Numbers.{head-taken}
+use lib.ListN.{take}
+use Rattle.layers.specs.Written.{startNumbers}
+use Rattle.planner.specs.Writing.{ownNumbers}
+use Rattle.layers.proofs.TwoParts.{first-asked, second-fits, second-asked, both-fit, both-written}
 use Rattle.planner_writer.proofs.head.write_head.Statement.{statement}
 use Rattle.planner_writer.proofs.head.write_head.Tie as tie
 
-head-numbers-requires : tie.Need-head-numbers-requires
-head-numbers-requires c κs = search needs
+write-base-requires : tie.Need-write-base-requires
+write-base-requires c κs =
+    let start = c .before .before in
+    let a = start .args in
+    (start .pre .0, first-asked (startNumbers 5 (a .base)) (ownNumbers (a .order) (a .figure) (take (a .order .s) (a .heads))) (a .out .now) (start .pre .1 .1 .0) (start .pre .1 .1 .1))
 
-mul-numbers : tie.Need-mul-numbers
-mul-numbers c = search needs
+sub-write-own : tie.Need-sub-write-own
+sub-write-own c =
+    let start = c .before .before .before .before .before in
+    let a = start .args in
+    omega (arith, second-fits (startNumbers 5 (a .base)) (ownNumbers (a .order) (a .figure) (take (a .order .s) (a .heads))) (a .out .now) (start .pre .1 .1 .0) (start .pre .1 .1 .1) (c .before .before .write-base .ensures))
 
-add-numbers : tie.Need-add-numbers
-add-numbers c = search needs
+part-write-own-start : tie.Need-part-write-own-start
+part-write-own-start c =
+    let start = c .before .before .before .before .before in
+    let a = start .args in
+    omega (arith, second-fits (startNumbers 5 (a .base)) (ownNumbers (a .order) (a .figure) (take (a .order .s) (a .heads))) (a .out .now) (start .pre .1 .1 .0) (start .pre .1 .1 .1) (c .before .before .write-base .ensures))
 
-sub-write-numbers : tie.Need-sub-write-numbers
-sub-write-numbers c = search needs
+part-write-own-end : tie.Need-part-write-own-end
+part-write-own-end c = search needs
 
-part-write-numbers-start : tie.Need-part-write-numbers-start
-part-write-numbers-start c = search needs
+write-own-requires : tie.Need-write-own-requires
+write-own-requires c κs =
+    let start = c .before .before .before .before .before .before in
+    let a = start .args in
+    (start .pre .1 .0, second-asked (startNumbers 5 (a .base)) (ownNumbers (a .order) (a .figure) (take (a .order .s) (a .heads))) (a .out .now) (start .pre .1 .1 .0) (start .pre .1 .1 .1) (c .before .before .before .write-base .ensures))
 
-part-write-numbers-end : tie.Need-part-write-numbers-end
-part-write-numbers-end c = search needs
-
--- the numbers that are lent
-lent : (c : tie.After-head-numbers)
-    → let a = c .before .before .args in
-    take (7 + 2 * a .order .s - 0) (drop 0 (c .head-numbers .result))
-    ≡ writtenNumbers (a .base) (a .order) (a .figure) (take (a .order .s) (a .heads))
-lent c =
-    let a = c .before .before .args in
-    ap (λ (head : List ℕ). take (7 + 2 * a .order .s - 0) (drop 0 head)) (c .head-numbers .ensures)
-    ∙ head-taken (a .base) (a .order) (a .figure) (a .heads) (a .order .s)
-
-write-numbers-requires : tie.Need-write-numbers-requires
-write-numbers-requires c κs =
-    rw (lent (c .before .before .before)) (c .before .before .before .before .before .pre .1)
+add-result : tie.Need-add-result
+add-result c =
+    let start = c .before .before .before .before .before .before .before .before .before in
+    let a = start .args in
+    omega (arith, both-fit (startNumbers 5 (a .base)) (ownNumbers (a .order) (a .figure) (take (a .order .s) (a .heads))) (a .out .now) (start .pre .1 .1 .0) (start .pre .1 .1 .1) (c .before .before .before .before .before .before .write-base .ensures) (c .before .before .write-own .ensures), start .good)
 
 same-length : tie.Need-same-length
 same-length c = search needs
 
 returns : tie.Need-returns
 returns c =
-    rw (lent (c .before .before .before .before .before .before)) at (c .before .before .write-numbers .ensures)
+    let start = c .before .before .before .before .before .before .before .before .before in
+    let a = start .args in
+    both-written (startNumbers 5 (a .base)) (ownNumbers (a .order) (a .figure) (take (a .order .s) (a .heads))) (a .out .now) (start .pre .1 .1 .0) (start .pre .1 .1 .1) (c .before .before .before .before .before .before .write-base .ensures) (c .before .before .write-own .ensures)
 
 pub write-head-spec : {M : Type 1} → statement M
 write-head-spec =
     tie.close
     (tie.spec
-    head-numbers-requires
-    mul-numbers
-    add-numbers
-    sub-write-numbers
-    part-write-numbers-start
-    part-write-numbers-end
-    write-numbers-requires
+    write-base-requires
+    sub-write-own
+    part-write-own-start
+    part-write-own-end
+    write-own-requires
+    add-result
     same-length
     returns)
