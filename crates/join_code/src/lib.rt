@@ -1,6 +1,4 @@
 // Joining packs: checked in order, then joined layer by layer into one.
-mod multiple;
-
 use join::Estate;
 use join::Joined;
 use join::Piece;
@@ -60,7 +58,7 @@ fn join_estate(first: &[u8], second: &[u8], third: &[u8], estate: Estate, out: &
     let one_layers = one.layers;
     let two_layers = two.layers;
     let three_layers = three.layers;
-    let joint = crate::multiple::joint_heads(r, one_layers, two_layers, three_layers);
+    let joint = join_mu::joint_heads(r, one_layers, two_layers, three_layers);
     if 4_096 < joint.most {
         return Joined::Refused(Refusal::Unjoinable);
     }

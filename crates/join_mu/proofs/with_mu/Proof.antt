@@ -1,10 +1,10 @@
--- `join_code::multiple::with_mu` meets its contract. Assumes nothing.
+-- `join_mu::with_mu` meets its contract. Assumes nothing.
 use native.Mathlib.Omega.{arith}
 use mathlib.Core.Path.{_∙_, sym, ap}
 use Prim.Native.Nat.{min}
 use Rattle.join.proofs.Heads.{withMu-some}
-use Rattle.join_code.proofs.multiple.with_mu.Statement.{statement}
-use Rattle.join_code.proofs.multiple.with_mu.Tie as tie
+use Rattle.join_mu.proofs.with_mu.Statement.{statement}
+use Rattle.join_mu.proofs.with_mu.Tie as tie
 
 returns : tie.Need-returns
 returns c = rw (c .if1 .taken) (omega arith)

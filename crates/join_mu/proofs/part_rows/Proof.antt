@@ -1,9 +1,9 @@
--- `join_code::multiple::part_rows` meets its contract. Assumes nothing.
+-- `join_mu::part_rows` meets its contract. Assumes nothing.
 use native.Mathlib.Omega.{arith}
 use Rattle.join.specs.Estate.{jointSize}
 use Rattle.join.proofs.Search.{part-most}
-use Rattle.join_code.proofs.multiple.part_rows.Statement.{statement}
-use Rattle.join_code.proofs.multiple.part_rows.Tie as tie
+use Rattle.join_mu.proofs.part_rows.Statement.{statement}
+use Rattle.join_mu.proofs.part_rows.Tie as tie
 
 returns : tie.Need-returns
 unfolding jointSize

@@ -1,12 +1,12 @@
--- `join_code::multiple::joint_heads` meets its contract. The loop's invariant: the layers below x have their joined numbers, the
+-- `join_mu::joint_heads` meets its contract. The loop's invariant: the layers below x have their joined numbers, the
 -- others 0 and 0. Assumes nothing.
 use native.Mathlib.Omega.{arith}
 use mathlib.Core.Path.{_≡_}
 use borrow.Author.Needs.{needs}
 use Prim.Native.Nat.{_-_}
 use Rattle.join.proofs.Heads.{HeadsFound, heads-none, next-few, heads-next}
-use Rattle.join_code.proofs.multiple.joint_heads.Statement.{statement}
-use Rattle.join_code.proofs.multiple.joint_heads.Tie as tie
+use Rattle.join_mu.proofs.joint_heads.Statement.{statement}
+use Rattle.join_mu.proofs.joint_heads.Tie as tie
 
 abbrev Inv-loop : tie.InvT-loop
 Inv-loop r a b c heads₀ most₀ rows₀ x₀ heads most rows x = HeadsFound a b c r heads most rows x

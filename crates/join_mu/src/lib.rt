@@ -1,4 +1,4 @@
-// The joined mu's and m's.
+// The joined mu's and m's of each layer.
 use join::JointHeads;
 use layers::LayerHead;
 ghost use mathlib.Core.Path.{_≡_};
@@ -72,12 +72,7 @@ fn joint_head(a: LayerHead, b: LayerHead, c: LayerHead) -> LayerHead
 }
 
 // The joined mu and m of each layer below r.
-pub(crate) fn joint_heads(
-    r: usize,
-    a: [LayerHead; 5],
-    b: [LayerHead; 5],
-    c: [LayerHead; 5],
-) -> JointHeads
+pub fn joint_heads(r: usize, a: [LayerHead; 5], b: [LayerHead; 5], c: [LayerHead; 5]) -> JointHeads
     requires { ⌜ r ≤ 5 ⌝ }
     requires { ⌜ HeadsFit a ⌝ }
     requires { ⌜ HeadsFit b ⌝ }

@@ -1,11 +1,11 @@
--- `join_code::multiple::common_multiple` meets its contract. The loop's invariant: m is a multiple of the larger number, and no
+-- `join_mu::common_multiple` meets its contract. The loop's invariant: m is a multiple of the larger number, and no
 -- common multiple comes before it. Assumes nothing.
 use Prim.Native.Nat.{_-_, min, max}
 use mathlib.Core.Path.{_≡_}
 use borrow.Author.Needs.{needs}
 use Rattle.join.proofs.Search.{Searching, search-first, search-found, search-next, search-past}
-use Rattle.join_code.proofs.multiple.common_multiple.Statement.{statement}
-use Rattle.join_code.proofs.multiple.common_multiple.Tie as tie
+use Rattle.join_mu.proofs.common_multiple.Statement.{statement}
+use Rattle.join_mu.proofs.common_multiple.Tie as tie
 
 abbrev Inv-loop : tie.InvT-loop
 Inv-loop a b step other m₀ m = Searching a b m × (step ≡ max a b) × (other ≡ min a b)

@@ -1,9 +1,9 @@
--- `join_code::multiple::joint_head` meets its contract: the multiple is found pack by pack, the last first. Assumes nothing.
+-- `join_mu::joint_head` meets its contract: the multiple is found pack by pack, the last first. Assumes nothing.
 use native.Mathlib.Omega.{arith}
 use borrow.Author.Needs.{needs}
 use Rattle.join.proofs.Heads.{withMu-least, head-joint, size-most}
-use Rattle.join_code.proofs.multiple.joint_head.Statement.{statement}
-use Rattle.join_code.proofs.multiple.joint_head.Tie as tie
+use Rattle.join_mu.proofs.joint_head.Statement.{statement}
+use Rattle.join_mu.proofs.joint_head.Tie as tie
 
 with-mu-requires : tie.Need-with-mu-requires
 with-mu-requires c κs = search needs
