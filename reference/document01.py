@@ -223,8 +223,12 @@ def plan(data, s, k, b, work=None, output=None):
 def planned(data, s, k, b):
     """The same of an order that is not refused."""
     pack = check_pack(data)
+    return split_placement(pack, s, k, b, named_split(pack["layers"], s, k, b))
+
+
+def split_placement(pack, s, k, b, counts):
+    """The bytes, the figure and the counts of the split with these counts, one for each layer below s, and the least copies."""
     n, r, layers = pack["n"], pack["r"], pack["layers"]
-    counts = named_split(layers, s, k, b)
     heads = [(least_copies(c, len(layers[x][1])) * layers[x][0], c) for x, c in enumerate(counts)]
     f = figure(PLANNED, s, k, b, heads)
     out = numbers(*base_numbers(PLANNED, n, r, pack["dark"]), s, k, b, f, *(v for head in heads for v in head))

@@ -5,7 +5,7 @@ from document01 import Refused
 
 CALLS = {"read_number": 4, "read_within": 5, "check_pack": 6, "check_placement": 7, "first_crowded": 8, "write_number": 9,
          "plan": 10, "row_walk": 11, "check_reply": 12, "plan_reply": 13, "curve": 14, "join": 15,
-         "plan_operator": 16}
+         "plan_operator": 16, "ask": 17, "commit": 18}
 WRONG = 22  # one more than the highest refusal's number
 LARGEST_64 = 2 ** 64 - 1
 FILLS = (170, 85)
@@ -61,8 +61,9 @@ class Script:
         self.bytes = self.bytes[:at] + bytes([v]) + self.bytes[at + 1:]
         self.input = self.bytes[slice(*self.window)]
 
-    def call(self, name, own, answer, kind=None, room=0, written=b"", work=0, free=0):
-        """A call with its own numbers on the input; `answer` is what it gives, `written` what it puts at its output's start."""
+    def call(self, name, own, answer, kind=None, room=0, written=b"", work=0, free=0, more=()):
+        """A call with its own numbers on the input, `more` of them after the slices'; `answer` is what it gives, `written` what it
+        puts at its output's start."""
         if not self.written.startswith(written):
             self.head(1, 0, [len(written)])
             self.file += written
@@ -71,10 +72,10 @@ class Script:
         fill = FILLS[len(self.calls) % 2]
         kind = answer[0] if kind is None else kind
         own = list(own) + [0] * (4 - len(own))
-        lent = [fill, room, len(written), work, free] if room or work else []
-        self.head(CALLS[name], kind, own + lent, answer)
+        lent = [fill, room, len(written), work, free] if room or work or more else []
+        self.head(CALLS[name], kind, own + lent + list(more), answer)
         self.seen[name, kind] += 1
-        self.calls.append((name, own, self.input, answer))
+        self.calls.append((name, own + list(more), self.input, answer))
 
     def lines(self):
         """What vectors_test is to print: for each kind, a result or a refusal's number, each call's vectors; the last are wrong ones."""

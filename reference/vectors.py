@@ -14,10 +14,11 @@ sys.path.insert(0, str(Path(__file__).resolve().parent.parent / "packings"))
 
 import chunks  # noqa: E402
 import document01 as reference  # noqa: E402
-from cases import check_inputs, padded, plan_inputs, random_pack, random_rows  # noqa: E402
+from cases import check_inputs, padded, plan_inputs, random_order, random_pack, random_rows  # noqa: E402
 from check_packings import pack_bytes  # noqa: E402
+from committing import ask, commit, five  # noqa: E402
 from constructions import catalogue  # noqa: E402
-from document01 import ROOM  # noqa: E402
+from document01 import ROOM, every_split  # noqa: E402
 from limits import one_row  # noqa: E402
 from operators import grant, plan_operator  # noqa: E402
 from reading import LARGEST, Refused, base_numbers, in_groups, numbers  # noqa: E402
@@ -26,6 +27,11 @@ from script import FILLS, LARGEST_64, Script, answer  # noqa: E402
 
 # What the calls behind the programs ask for: room for any line, and what the largest order needs.
 LINE_ROOM, WORK_MOST, OUTPUT_MOST = 200, 5 * 4_097, ROOM + 4_096 * 5
+
+
+def room_for(b, r):
+    """The bytes that planning and committing ask of an output."""
+    return ROOM + b * r
 
 
 # --- one call each
@@ -103,6 +109,26 @@ def call_operator(script, s, k, wish, other, work, room):
         return
     script.call("plan_operator", own, [0, len(out), figure, *counts], room=room, written=out, work=work,
                 free=s * (grant(wish, other) + 1))
+
+
+def call_ask(script, s, k, b, work):
+    """The counts that are offered, or None."""
+    try:
+        figure, counts, copies = ask(script.input, s, k, b, work)
+    except Refused as e:
+        script.call("ask", [s, k, b], [e.number, e.place], work=work)
+        return None
+    script.call("ask", [s, k, b], [0, figure, *counts, *copies], work=work, free=s * (b + 1))
+    return counts
+
+
+def call_commit(script, s, k, b, counts, room):
+    try:
+        out, figure, _ = commit(script.input, s, k, b, counts, room)
+    except Refused as e:
+        script.call("commit", [s, k, b], [e.number, e.place], room=room, more=counts)
+        return
+    script.call("commit", [s, k, b], [0, len(out), figure, *counts], room=room, written=out, more=counts)
 
 
 def call_walk(script, more=0):
@@ -398,6 +424,70 @@ def operator_vectors(script):
     call_operator(script, 1, 1, 0, 9, 20, ROOM + 27)
 
 
+def committed(script, s, k, b, r):
+    """Asking with a working slice one short, just long enough and longer, then committing what was offered, with outputs alike."""
+    work, room = s * (b + 1), room_for(b, r)
+    for less in (1, 0, work, -3):
+        counts = call_ask(script, s, k, b, work - less) or five([])
+    call_plan(script, s, k, b, work, room)
+    for short in (1, 0, room, -5):
+        call_commit(script, s, k, b, counts, max(room - short, 0))
+
+
+def bad_counts(s, b, counts):
+    """The counts with one more or less somewhere, a record moved, numbers so large that a sum of 64 bits would wrap, and others."""
+    for x in range(5):
+        for c in {counts[x] + 1, max(counts[x] - 1, 0), b, b + 1, 4_096, 2 ** 32 - 2, LARGEST_64} - {counts[x]}:
+            yield counts[:x] + [c] + counts[x + 1:]
+        yield [0] * x + [b] + [0] * (4 - x)
+        yield [LARGEST_64] * x + [b + 4] + [LARGEST_64] * (4 - x)
+        yield [0] * x + [LARGEST_64] + [b + 1] * min(1, 4 - x) + [0] * max(3 - x, 0)
+    yield five([])
+    yield [LARGEST_64] * 5
+
+
+def split_counts(s, b):
+    """Every way to share b records over the layers below s, and over one layer more."""
+    for counts in every_split(min(s + 1, 5), b):
+        yield five(counts)
+
+
+def commit_vectors(script):
+    """Asking, committing what was asked, every split of small orders, counts of every bad shape, bad packs and orders, short slices."""
+    upper = numbers(1, 3, 2, 1, 0, 1, 1) + bytes([0, 1])
+    script.read(P)
+    for s, k, b in ((2, 3, 9), (2, 2, 9), (3, 4, 10), (3, 4, 7), (1, 6, 1), (3, 6, 40), (2, 3, 4_096), (3, 4, 4_096)):
+        committed(script, s, k, b, 3)
+    for s, k, b in ((2, 3, 9), (3, 4, 10), (1, 3, 9)):
+        counts = call_ask(script, s, k, b, s * (b + 1))
+        for bad in bad_counts(s, b, counts):
+            call_commit(script, s, k, b, bad, room_for(b, 3))
+            call_commit(script, s, k, b, bad, 0)
+    for s, k, b in ((1, 1, 4), (2, 3, 4), (3, 3, 4), (3, 6, 5), (2, 6, 6)):
+        for counts in split_counts(s, b):
+            call_commit(script, s, k, b, counts, room_for(b, 3))
+    for data in (P, P[:-1], P + b"\0", NINE, b"", bytes([255] * 4), bytes([1, 1]) + P[2:], P[:-1] + bytes([4]), P[:-1] + bytes([6]), upper):
+        script.read(data)
+        for s, k, b in ((2, 3, 9), (1, 1, 9), (2, 2, 9), (0, 3, 9), (4, 3, 9), (2, 1, 9), (2, 7, 9), (2, 3, 0), (2, 3, 4_097), (LARGEST_64, 3, 9),
+                        (2, LARGEST_64, 9), (2, 3, LARGEST_64)):
+            for work in (0, 20):
+                call_ask(script, s, k, b, work)
+            for counts in ([2, 7, 0, 0, 0], [9, 0, 0, 0, 0], [0, 9, 0, 0, 0], [2, 6, 0, 0, 0], five([]), [LARGEST_64] * 5):
+                call_commit(script, s, k, b, counts, room_for(9, 3))
+    draw = random.Random(61)
+    for _ in range(120):
+        n, r, data = random_pack(draw, most=draw.choice([2, 6]), extra=draw.choice([0, 1, -1]))
+        script.read(data)
+        s, k, b = random_order(draw, n, r, draw.choice([3, 12]))
+        counts = call_ask(script, s, k, b, s * (b + 1))
+        if counts:
+            call_commit(script, s, k, b, counts, room_for(b, r))
+        for _ in range(4):
+            cuts = sorted(draw.randint(0, b) for _ in range(draw.choice([s, s, s + 1]) - 1))
+            shared = five([high - low for low, high in zip([0] + cuts, cuts + [b])])[:5]
+            call_commit(script, s, k, b, shared, room_for(b, r) - draw.choice([0, 0, 0, 1]))
+
+
 def grouped_rows():
     """4,096 rows of five nodes. Row i has a node of each of five groups of 50: with a, b, c the digits of i to base 17, lowest
     first, group k's is 50 k + (a + k b + k² c) mod 17. So three nodes determine the row, and every three stand together in one
@@ -484,7 +574,7 @@ def padded_vectors(script):
 
 def script_of_all():
     script = Script()
-    for vectors in (number_vectors, small_files, placement_vectors, curve_vectors, join_vectors, plan_vectors, operator_vectors,
+    for vectors in (number_vectors, small_files, placement_vectors, curve_vectors, join_vectors, plan_vectors, operator_vectors, commit_vectors,
                     padded_vectors, crowding_vectors, published_vectors):
         vectors(script)
     return script

@@ -78,8 +78,14 @@ fn plan<T: PackingTest>(input: &[u8], fill: Fill) -> Result<Vec<u8>, Refusal> {
     for (index, value) in order.iter_mut().enumerate() {
         *value = head.number().map_err(|_| Refusal { number: 12, place: index })?;
     }
-    let [s, k, b] = order;
-    let pack = Pack::check::<T>(&input[head.at..])?;
+    let (pack, rules) = ordered::<T>(&input[head.at..], order)?;
+    let counts = split::named(&rules[..order[0]], order[2], fill);
+    Ok(placement(&pack, &rules[..order[0]], &counts, order))
+}
+
+/// The pack and the rules of loss of the layers below s, where the pack, s, k and b (12) and the blocks (9) are not refused.
+fn ordered<T: PackingTest>(bytes: &[u8], [s, k, b]: [usize; 3]) -> Result<(Pack<'_>, [Rule; 5]), Refusal> {
+    let pack = Pack::check::<T>(bytes)?;
     if !(1..=pack.base.r).contains(&s) {
         return refused(12, 0);
     }
@@ -97,8 +103,40 @@ fn plan<T: PackingTest>(input: &[u8], fill: Fill) -> Result<Vec<u8>, Refusal> {
     for (x, layer) in layers.iter().enumerate() {
         rules[x] = Rule::new(s, k, x, layer);
     }
-    let counts = split::named(&rules[..s], b, fill);
-    Ok(placement(&pack, &rules[..s], &counts, [s, k, b]))
+    Ok((pack, rules))
+}
+
+/// What asking gives: the figure, the counts and the copies of the split that would be planned.
+pub struct Offer {
+    pub figure: usize,
+    pub counts: [usize; 5],
+    pub copies: [usize; 5],
+}
+
+/// Document 02, (i): asking.
+pub fn ask<T: PackingTest>(bytes: &[u8], order: [usize; 3], fill: Fill) -> Result<Offer, Refusal> {
+    let (_, rules) = ordered::<T>(bytes, order)?;
+    let rules = &rules[..order[0]];
+    let counts = split::named(rules, order[2], fill);
+    let mut copies = [0; 5];
+    let mut figure = order[2];
+    for (x, rule) in rules.iter().enumerate() {
+        copies[x] = rule.copies(counts[x]);
+        figure -= rule.loss(counts[x]);
+    }
+    Ok(Offer { figure, counts, copies })
+}
+
+/// Document 02, (i): committing these counts.
+pub fn commit<T: PackingTest>(bytes: &[u8], order: [usize; 3], counts: &[usize; 5]) -> Result<Vec<u8>, Refusal> {
+    let (pack, rules) = ordered::<T>(bytes, order)?;
+    let [s, _, b] = order;
+    let sum = counts.iter().try_fold(0_usize, |sum, &c| sum.checked_add(c));
+    let placed = (0..5).all(|x| counts[x] == 0 || x < s && pack.layers[x].size > 0);
+    if sum != Some(b) || !placed {
+        return refused(16, 0);
+    }
+    Ok(placement(&pack, &rules[..s], counts, order))
 }
 
 /// The placement of these counts: row j of a layer is its block j mod m.
@@ -221,6 +259,21 @@ mod tests {
         assert_eq!(both(&[2, 3, 9]), b"refused 1 0\n");
         assert_eq!(both(&[2, 3]), b"refused 12 2\n");
         assert_eq!(both(&[1, 2, 5, 1, 3, 2, 1, 0, 1, 1, 0, 1]), b"refused 9 0\n");
+    }
+
+    #[test]
+    fn what_is_asked_and_committed_is_planned() {
+        let pack = seven_cabinets();
+        for order in [[2, 3, 9], [2, 2, 9], [3, 4, 10], [1, 6, 1]] {
+            let offer = ask::<crowding::Counter>(&pack, order, split::by_recurrence).ok().unwrap();
+            let committed = commit::<crowding::Counter>(&pack, order, &offer.counts).ok().unwrap();
+            assert_eq!(committed, both(&[&order.map(|v| v as u8), &pack[..]].concat()));
+            assert_eq!(usize::from(committed[7]), offer.figure);
+        }
+        for counts in [[2, 6, 0, 0, 0], [2, 6, 1, 0, 0], [usize::MAX, 10, 0, 0, 0], [2, 7, 0, 0, 1]] {
+            let refusal = commit::<crowding::Counter>(&pack, [2, 3, 9], &counts).err().unwrap();
+            assert_eq!((refusal.number, refusal.place), (16, 0));
+        }
     }
 
     #[test]

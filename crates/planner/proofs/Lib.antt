@@ -6,3 +6,4 @@ pub mod Layering
 pub mod Committed
 pub mod Worked
 pub mod Padding
+pub mod Found

@@ -8,6 +8,8 @@ use layers::LayerHead;
 use placement::Order;
 use placement::Rule;
 use planner::PlanAnswer;
+pub use shares::copies_for;
+pub use shares::split_heads;
 ghost use mathlib.Core.Path.{_≡_};
 ghost use Prim.Native.Nat.{_≤_};
 ghost use lib.ListN.{length};

@@ -7,7 +7,7 @@ ghost use Rattle.split.specs.Splits.{copiesFor, splitHeads, countsSplit};
 ghost use Rattle.planner.specs.Writing.{SharesFit};
 
 // The least copies of m blocks that hold c records; none where there is no block.
-fn copies_for(c: usize, m: usize) -> usize
+pub fn copies_for(c: usize, m: usize) -> usize
     requires { ⌜ c + m ≤ 65536 ⌝ }
     ensures { λ d. ⌜ d ≡ copiesFor c m ⌝ }
 {
@@ -18,7 +18,7 @@ fn copies_for(c: usize, m: usize) -> usize
 }
 
 // lambda of each layer below s, its copies × mu, and its count; 0 and 0 from layer s on.
-pub(crate) fn split_heads(layers: [LayerHead; 5], counts: [usize; 5], s: usize) -> [LayerHead; 5]
+pub fn split_heads(layers: [LayerHead; 5], counts: [usize; 5], s: usize) -> [LayerHead; 5]
     requires { ⌜ SharesFit layers s counts ⌝ }
     ensures { λ heads. ⌜ heads ≡ fiveHeads (splitHeads layers s (countsSplit layers counts)) ⌝ }
 {

@@ -23,6 +23,7 @@ use Rattle.placement.specs.Placement.{Placement, TermsReading, readPlacement}
 use Rattle.placement.proofs.Answered.{placement-told}
 use Rattle.placement.specs.Answers.{termsRead, placementChecked, placementOutcome, placementValues}
 use Rattle.planner.specs.Answers.{planAnswer, planOutcome, planValues}
+use Rattle.commit.specs.Asking.{Offer, askAnswer, askOutcome, offerValues}
 use Rattle.walk.specs.declared.Cursor.{Cursor}
 use Rattle.walk.specs.RowWalk.{walkOpened, walkOutcome}
 use Rattle.report.specs.declared.OrderReading.{OrderReading}
@@ -114,6 +115,11 @@ demand-1-placement bytes = go (readPlacement bytes) refl
 pub demand-1-plan : (c : Checked Placement) → planOutcome (planAnswer c) ≡ outcome planValues c
 demand-1-plan (accepted p) = refl
 demand-1-plan (refused e) = refl
+
+-- asking: the figure, the counts and the copies
+pub demand-1-ask : (c : Checked Offer) → askOutcome (askAnswer c) ≡ outcome offerValues c
+demand-1-ask (accepted offer) = refl
+demand-1-ask (refused e) = refl
 
 -- the row walk
 pub demand-1-walk : (c : Checked Cursor) → walkOutcome (walkOpened c) ≡ outcome (λ walk. walk .at ∷ walk .r ∷ walk .left ∷ []) c

@@ -10,6 +10,7 @@ pub mod RequestD
 pub mod RequestF
 pub mod RequestG
 pub mod RequestH
+pub mod RequestI
 pub mod Starred
 pub mod RequestE
 pub mod RequestHPlans

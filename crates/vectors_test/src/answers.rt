@@ -1,4 +1,6 @@
 // Answers as numbers: 0 and the values that document 01 gives a result, or a refusal's number and place.
+use commit::AskAnswer;
+use commit::AskResult;
 use join::Joined;
 use layers::LayerHead;
 use number::NumberRead;
@@ -136,6 +138,41 @@ pub(crate) fn plan_result(result: PlanResult) -> [usize; 19] {
     match answer {
         PlanAnswer::Planned { length, figure } => planned(length, figure, counts),
         PlanAnswer::Refused(e) => refused(e),
+    }
+}
+
+// F, the counts and the copies.
+fn offered(figure: usize, counts: [usize; 5], copies: [usize; 5]) -> [usize; 19] {
+    [
+        0,
+        figure,
+        counts[0],
+        counts[1],
+        counts[2],
+        counts[3],
+        counts[4],
+        copies[0],
+        copies[1],
+        copies[2],
+        copies[3],
+        copies[4],
+        0,
+        0,
+        0,
+        0,
+        0,
+        0,
+        0,
+    ]
+}
+
+pub(crate) fn ask_result(result: AskResult) -> [usize; 19] {
+    let answer = result.answer;
+    let counts = result.counts;
+    let copies = result.copies;
+    match answer {
+        AskAnswer::Offered(figure) => offered(figure, counts, copies),
+        AskAnswer::Refused(e) => refused(e),
     }
 }
 

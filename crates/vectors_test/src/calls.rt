@@ -105,6 +105,17 @@ fn plan_operator(given: Given, input: &[u8], work: &mut [u16], out: &mut [u8]) -
     answers::plan_result(operators_code::plan_operator(input, order, work, out))
 }
 
+// Asking, with the working slice lent.
+fn ask(given: Given, input: &[u8], work: &mut [u16]) -> [usize; 19] {
+    answers::ask_result(ask_code::ask(input, given.a, given.b, given.c, work))
+}
+
+// Committing the counts that are given.
+fn commit(given: Given, input: &[u8], out: &mut [u8]) -> [usize; 19] {
+    let counts = given.more;
+    answers::plan_result(commit_code::commit(input, given.a, given.b, given.c, counts, out))
+}
+
 // What the programs say.
 fn replied(call: usize, input: &[u8], work: &mut [u16], out: &mut [u8]) -> [usize; 19] {
     if call == 12 {
@@ -173,6 +184,8 @@ pub(crate) fn answer(
         14 => curve(input, work, out),
         15 => join(given, input, out),
         16 => plan_operator(given, input, work, out),
+        17 => ask(given, input, work),
+        18 => commit(given, input, out),
         _ => told(call, given, input),
     }
 }

@@ -9,7 +9,8 @@
 //   3  the input is the part of the bytes from the first number to the second
 //   otherwise a call. Its own numbers are given first, in the order of its parameters; then, from the fifth on, the byte that
 //   the lent output is filled with (an entry of the working slice has it twice), the output's length, how many bytes are to
-//   be written, the working slice's length and how many of its first entries are free afterwards.
+//   be written, the working slice's length and how many of its first entries are free afterwards; from the tenth on, five
+//   more of its own.
 use libc::STDIN_FILENO;
 ghost use mathlib.Core.Path.{_≡_};
 ghost use Prim.Native.Nat.{_≤_};
@@ -36,6 +37,7 @@ pub(crate) struct Given {
     pub written: usize,
     pub entries: usize,
     pub free: usize,
+    pub more: [usize; 5],
 }
 
 // The part of the bytes that is the input.
@@ -123,6 +125,7 @@ pub(crate) fn next_numbers(count: usize) -> [usize; 19]
 // The numbers that are given.
 pub(crate) fn next_given(count: usize) -> Given {
     let n = next_numbers(count);
+    let more = [n[9], n[10], n[11], n[12], n[13]];
     Given {
         a: n[0],
         b: n[1],
@@ -133,6 +136,7 @@ pub(crate) fn next_given(count: usize) -> Given {
         written: n[6],
         entries: n[7],
         free: n[8],
+        more,
     }
 }
 

@@ -3,7 +3,7 @@
 use native.Mathlib.Omega.{arith}
 use Rattle.planner.specs.Planning.{plan}
 use Rattle.planner_code.proofs.Chosen.{refused-done}
-use Rattle.planner_code.proofs.Found.{PackFound, check-refused, check-accepted}
+use Rattle.planner.proofs.Found.{PackFound, check-refused, check-accepted}
 use borrow.Author.Needs.{needs}
 use Rattle.planner_code.proofs.plan.Statement.{statement}
 use Rattle.planner_code.proofs.plan.Tie as tie

@@ -1,0 +1,10 @@
+pub mod Counts
+pub mod Fives
+pub mod Checks
+pub mod Offers
+pub mod Committed
+pub mod Both
+pub mod Counting
+pub mod Answers
+pub mod Refusals
+pub mod Worked

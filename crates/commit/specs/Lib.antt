@@ -1,0 +1,3 @@
+pub mod Asking
+pub mod Asked
+pub mod Committing
