@@ -91,6 +91,22 @@ def padded(data, count):
         yield b"".join(in_groups(v, size) for v in head) + data[at:]
 
 
+def small_placement(draw, kind):
+    """A placement of this kind of at most twelve records on at most nine nodes, with bounds that are least or larger."""
+    n = draw.randint(2, 9)
+    r = draw.randint(2, min(5, n))
+    s = draw.randint(1, min(r, n - 1))
+    k = draw.randint(s, n - 1)
+    dark = sorted(draw.sample(range(n), draw.randint(0, n - r))) if kind == 5 else []
+    nodes = [node for node in range(n) if node not in dark]
+    layers = [random_rows(draw, nodes, r, draw.choice([0, 1, 3, 5])) for _ in range(s)]
+    layers[-1] = layers[-1] or [tuple(nodes[:r])]
+    heads = [(least_bound(rows, x, draw.choice([0, 0, 2])), len(rows)) for x, rows in enumerate(layers)]
+    b = sum(c for _, c in heads)
+    head = numbers(*base_numbers(kind, n, r, dark), s, k, b, figure(kind, s, k, b, heads), *(v for pair in heads for v in pair))
+    return head + bytes(v for rows in layers for row in rows for v in row)
+
+
 def of_kind(kind, data):
     """The same rows as a placement of this kind, with this kind's figure."""
     p = check_placement(data)

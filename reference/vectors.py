@@ -8,13 +8,14 @@ Two runs write the same files.
 import random
 import sys
 from itertools import product
+from math import comb
 from pathlib import Path
 
 sys.path.insert(0, str(Path(__file__).resolve().parent.parent / "packings"))
 
 import chunks  # noqa: E402
 import document01 as reference  # noqa: E402
-from cases import check_inputs, padded, plan_inputs, random_order, random_pack, random_rows  # noqa: E402
+from cases import check_inputs, padded, plan_inputs, random_order, random_pack, random_rows, small_placement  # noqa: E402
 from check_packings import pack_bytes  # noqa: E402
 from committing import ask, commit, five  # noqa: E402
 from constructions import catalogue  # noqa: E402
@@ -24,6 +25,7 @@ from operators import grant, plan_operator  # noqa: E402
 from reading import LARGEST, Refused, base_numbers, in_groups, numbers  # noqa: E402
 from seven import DARK, DARK_NINE, DARK_P, NINE, NINES, P, P_LISTED, SEVEN  # noqa: E402
 from script import FILLS, LARGEST_64, Script, answer  # noqa: E402
+from worst import worst_case  # noqa: E402
 
 # What the calls behind the programs ask for: room for any line, and what the largest order needs.
 LINE_ROOM, WORK_MOST, OUTPUT_MOST = 200, 5 * 4_097, ROOM + 4_096 * 5
@@ -151,6 +153,15 @@ def call_curve(script, entries):
         return
     written = b"".join(f.to_bytes(2, "little") for f in figures)
     script.call("curve", [], [0, len(figures)], room=2 * entries, written=written, work=entries, free=len(figures))
+
+
+def call_worst(script, room):
+    try:
+        number, nodes = worst_case(script.input, room)
+    except Refused as e:
+        script.call("worst_case", [], [e.number, e.place], room=room)
+        return
+    script.call("worst_case", [], [0, number], room=room, written=nodes)
 
 
 def call_join(script, packs, room):
@@ -286,6 +297,58 @@ def curve_vectors(script):
         script.read(head + bytes(v for row in rows for v in row))
         for lent in (n - s - 1, n - s, n - s + 2):
             call_curve(script, lent)
+
+
+def many_sets(data):
+    """Whether the sets are more than are worth counting one by one here, and not so many that the call refuses them."""
+    try:
+        p = reference.check_placement(data)
+    except Refused:
+        return False
+    sets = comb(p["n"], p["k"])
+    return sets * p["k"] > 20_000 and sets * p["b"] <= 16_777_216
+
+
+def spread_rows(kind, n, r, s, k, b):
+    """b rows of r nodes in layer s-1: row i has nodes i, i + 1 + a, i + 2 + 2a, .. modulo n, where a counts the rounds."""
+    rows = []
+    for i in range(b):
+        step = 1 + i // n % max(1, (n - 1) // r)
+        rows.append(tuple(sorted((i + j * step) % n for j in range(r))))
+    rows = [row if len(set(row)) == r else tuple(range(r)) for row in rows]
+    heads = [(0, 0)] * (s - 1) + [(b, b)]
+    f = reference.figure(kind, s, k, b, heads)
+    dark = sorted(set(range(n)) - {node for row in rows for node in row})
+    return numbers(*base_numbers(kind, n, r, dark), s, k, b, f, *(v for head in heads for v in head)) + bytes(v for row in rows for v in row)
+
+
+def worst_vectors(script):
+    """Small placements of every kind, every input of the checker, both sides of refusal 17, and outputs at their edges."""
+    draw = random.Random(71)
+    for i in range(600):
+        data = small_placement(draw, (2, 3, 5)[i % 3])
+        script.read(data)
+        k = reference.check_placement(data)["k"]
+        for room in {k + i % 4, *((k - 1, k, 0) if i % 10 == 0 else ())}:
+            call_worst(script, room)
+    for i, data in enumerate(check_inputs()):
+        if not many_sets(data):
+            script.read(data)
+            call_worst(script, 254 + i % 3)
+    for data in (NINE, DARK_NINE, *SEVEN.values()):
+        for placement in padded(data, 7):
+            script.read(placement)
+            call_worst(script, 5)
+    # n, r, s, k, b: the most sets that are taken and one record or node more; k = n-1; every set of few nodes
+    for n, r, s, k, b in ((33, 3, 2, 3, 3_075), (33, 3, 2, 3, 3_076), (146, 2, 2, 2, 1_584), (146, 2, 2, 2, 1_585), (91, 3, 2, 2, 4_096),
+                          (92, 3, 2, 2, 4_007), (92, 3, 2, 2, 4_008), (255, 5, 1, 2, 518), (255, 5, 2, 2, 519), (255, 5, 5, 254, 4_096),
+                          (255, 5, 1, 254, 1), (255, 2, 2, 253, 519), (255, 3, 3, 127, 1), (255, 3, 1, 128, 4_096), (27, 3, 3, 13, 1),
+                          (24, 5, 4, 12, 7), (60, 4, 4, 58, 300), (14, 3, 2, 7, 400), (12, 5, 5, 11, 9), (6, 5, 3, 5, 40), (2, 2, 1, 1, 4_096),
+                          (12, 4, 2, 6, 50), (12, 4, 4, 6, 50), (12, 2, 1, 6, 50), (40, 5, 3, 39, 100), (9, 5, 4, 8, 30), (11, 3, 2, 9, 70)):
+        for kind in (2, 3, 5):
+            script.read(spread_rows(kind, n, r, s, k, b))
+            for room in (k, k + 3, k - 1, 0):
+                call_worst(script, room)
 
 
 def pair_pack(n, mu, m, layer=0, dark=None):
@@ -575,7 +638,7 @@ def padded_vectors(script):
 def script_of_all():
     script = Script()
     for vectors in (number_vectors, small_files, placement_vectors, curve_vectors, join_vectors, plan_vectors, operator_vectors, commit_vectors,
-                    padded_vectors, crowding_vectors, published_vectors):
+                    worst_vectors, padded_vectors, crowding_vectors, published_vectors):
         vectors(script)
     return script
 

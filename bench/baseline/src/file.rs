@@ -45,9 +45,12 @@ pub struct Pack<'a> {
 pub struct Placement {
     pub n: usize,
     pub r: usize,
+    pub s: usize,
     pub k: usize,
     pub b: usize,
     pub figure: usize,
+    /// The place of the first row.
+    pub first: usize,
     pub most: usize,
 }
 
@@ -94,7 +97,7 @@ impl Placement {
         if figure != b - lost {
             return refused(8, figure_at);
         }
-        Ok(Placement { n, r, k, b, figure, most })
+        Ok(Placement { n, r, s, k, b, figure, first: head.at, most })
     }
 }
 

@@ -7,6 +7,7 @@ pub mod number;
 pub mod sorted;
 pub mod split;
 pub mod text;
+pub mod worst;
 
 use std::fs::File;
 use std::io::{Read, Write};

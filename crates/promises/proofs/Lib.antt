@@ -11,6 +11,7 @@ pub mod RequestF
 pub mod RequestG
 pub mod RequestH
 pub mod RequestI
+pub mod RequestJ
 pub mod Starred
 pub mod RequestE
 pub mod RequestHPlans

@@ -17,6 +17,7 @@ use planner::PlanResult;
 use refusal::Refusal;
 use refusal::Writing;
 use report::Reply;
+use worst::WorstCase;
 ghost use lib.ListN.{length};
 
 // What no call answers.
@@ -204,5 +205,12 @@ pub(crate) fn wrote(writing: Writing) -> [usize; 19] {
     match writing {
         Writing::Written(n) => numbers(0, n, 0),
         Writing::Refused(e) => refused(e),
+    }
+}
+
+pub(crate) fn worst(answer: WorstCase) -> [usize; 19] {
+    match answer {
+        WorstCase::Fewest(n) => numbers(0, n, 0),
+        WorstCase::Refused(e) => refused(e),
     }
 }

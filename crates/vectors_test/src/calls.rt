@@ -186,6 +186,7 @@ pub(crate) fn answer(
         16 => plan_operator(given, input, work, out),
         17 => ask(given, input, work),
         18 => commit(given, input, out),
+        19 => answers::worst(worst_code::worst_case(input, out)),
         _ => told(call, given, input),
     }
 }

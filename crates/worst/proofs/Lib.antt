@@ -1,0 +1,13 @@
+pub mod Through
+pub mod Sets
+pub mod Exact
+pub mod Among
+pub mod Hits
+pub mod Turns
+pub mod Steps
+pub mod Filling
+pub mod Index
+pub mod Whole
+pub mod Binomials
+pub mod Call
+pub mod Worked

@@ -1,0 +1,45 @@
+-- The nodes that are left fall: what ends the cycle of `choose` and `search`. Assumes nothing.
+use Prim.Native.Nat.{ℕ, _+_, _*_, _-_, _<_}
+use borrow.Fn.Kinds.{In}
+use borrow.Fn.PlainCycle.{Measures, is, falls, and}
+use Rattle.worst_search.proofs.choose.Reads as choose
+use Rattle.worst_search.proofs.choose.Kinds as choose-kinds
+use Rattle.worst_search.proofs.search.Reads as search′
+use Rattle.worst_search.proofs.search.Kinds as search-kinds
+use Rattle.worst_search.proofs.+choose+search.Lts-choose as choose-lts
+use Rattle.worst_search.proofs.choose_last.Reads as choose-last-reads
+use Rattle.worst_search.proofs.hits.entries_of.Reads as entries-of-reads
+use Rattle.worst_search.proofs.hits.lower.Reads as lower-reads
+use Rattle.worst_search.proofs.hits.raise.Reads as raise-reads
+
+abbrev pub μ-choose : Measures 4 choose-kinds.ps ℕ
+μ-choose κs a = 2 * (a .0 .n - a .0 .next .0)
+
+abbrev pub μ-search : Measures 4 search-kinds.ps ℕ
+μ-search κs a = 2 * (a .0 .n - a .0 .next .0) + 1
+
+abbrev pub choose-at : ℕ → In 4 choose-kinds.ps
+choose-at t = and 4 choose-kinds.ps (is 4 choose-kinds.ps μ-choose t) choose.Pre
+
+abbrev pub choose-below : ℕ → In 4 choose-kinds.ps
+choose-below t = and 4 choose-kinds.ps (falls 4 choose-kinds.ps _<_ μ-choose t) choose.Pre
+
+abbrev pub search-at : ℕ → In 4 search-kinds.ps
+search-at t = and 4 search-kinds.ps (is 4 search-kinds.ps μ-search t) search′.Pre
+
+abbrev pub search-below : ℕ → In 4 search-kinds.ps
+search-below t = and 4 search-kinds.ps (falls 4 search-kinds.ps _<_ μ-search t) search′.Pre
+
+abbrev pub callees : ℕ → choose-lts.Claims
+callees t = (
+  choose-last-reads.Asked,
+  choose-last-reads.Learnt,
+  entries-of-reads.Asked,
+  entries-of-reads.Learnt,
+  raise-reads.Asked,
+  raise-reads.Learnt,
+  search-below t,
+  search′.Post,
+  lower-reads.Asked,
+  lower-reads.Learnt,
+)
