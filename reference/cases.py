@@ -2,7 +2,8 @@
 ones. Nothing here depends on the time or the machine.
 """
 import random
-from itertools import islice
+from collections import Counter
+from itertools import combinations, islice
 
 from dark import listed_orders, listed_placements, random_list, row_of_dark
 from document01 import check_placement, figure, first_crowded, pack_bytes, plan_reply
@@ -114,6 +115,40 @@ def of_kind(kind, data):
     f = figure(kind, p["s"], p["k"], p["b"], heads)
     flat = [v for head in heads for v in head]
     return numbers(*base_numbers(kind, p["n"], p["r"], p["dark"]), p["s"], p["k"], p["b"], f, *flat) + data[p["at"]:]
+
+
+def placement_of(kind, n, r, s, k, layers):
+    """A placement of these rows, layer by layer, with lambdas as small as they allow; in kind 5 nodes without a row are out of service."""
+    heads = []
+    for x, rows in enumerate(layers):
+        sets = Counter(nodes for row in rows for nodes in combinations(row, x + 1))
+        heads.append((max(sets.values(), default=0), len(rows)))
+    rows = [row for layer in layers for row in layer]
+    f = figure(kind, s, k, len(rows), heads)
+    dark = sorted(set(range(n)) - {node for row in rows for node in row})
+    head = numbers(*base_numbers(kind, n, r, dark), s, k, len(rows), f, *(v for head in heads for v in head))
+    return head + bytes(v for row in rows for v in row)
+
+
+def random_placement(draw, kind, n, most):
+    """A placement on n nodes with 1 to `most` records."""
+    r = draw.randint(2, min(5, n))
+    s = draw.randint(1, min(r, n - 1))
+    layers = [[] for _ in range(s)]
+    for _ in range(draw.randint(1, most)):
+        draw.choice(layers).append(tuple(sorted(draw.sample(range(n), r))))
+    return placement_of(kind, n, r, s, draw.randint(s, n - 1), layers)
+
+
+def two_node_placement(kind, n, b):
+    """b records, all on nodes 0 and 1, with s = 1."""
+    return placement_of(kind, n, 2, 1, 1, [[(0, 1)] * b])
+
+
+def seven_rows(kind):
+    """Document 01's seven rows of layer 1, with s = 2."""
+    rows = [(0, 1, 2), (0, 3, 4), (0, 5, 6), (1, 3, 5), (1, 4, 6), (2, 3, 6), (2, 4, 5)]
+    return placement_of(kind, 7, 3, 2, 2, [[], rows])
 
 
 def first_numbers():

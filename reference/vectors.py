@@ -15,7 +15,7 @@ sys.path.insert(0, str(Path(__file__).resolve().parent.parent / "packings"))
 
 import chunks  # noqa: E402
 import document01 as reference  # noqa: E402
-from cases import check_inputs, padded, plan_inputs, random_order, random_pack, random_rows, small_placement  # noqa: E402
+from cases import check_inputs, padded, plan_inputs, random_order, random_pack, random_placement, random_rows, seven_rows, small_placement, two_node_placement  # noqa: E402
 from check_packings import pack_bytes  # noqa: E402
 from committing import ask, commit, five  # noqa: E402
 from constructions import catalogue  # noqa: E402
@@ -24,6 +24,7 @@ from limits import one_row  # noqa: E402
 from operators import grant, plan_operator  # noqa: E402
 from reading import LARGEST, Refused, base_numbers, in_groups, numbers  # noqa: E402
 from seven import DARK, DARK_NINE, DARK_P, NINE, NINES, P, P_LISTED, SEVEN  # noqa: E402
+from rounds import rounds  # noqa: E402
 from script import FILLS, LARGEST_64, Script, answer  # noqa: E402
 from worst import worst_case  # noqa: E402
 
@@ -162,6 +163,10 @@ def call_worst(script, room):
         script.call("worst_case", [], [e.number, e.place], room=room)
         return
     script.call("worst_case", [], [0, number], room=room, written=nodes)
+
+
+def call_rounds(script, q):
+    script.call("rounds", [q], answer(rounds, script.input, q))
 
 
 def call_join(script, packs, room):
@@ -380,6 +385,33 @@ def joined_lists(script):
         join_edges(script, [pair_pack(n, 2, 2, dark=list(range(2, n))) for n in sizes])
     for sizes in ((127, 129), (128, 128), (85, 85, 86)):
         call_join(script, [pair_pack(n, 1, 0, dark=list(range(n))) for n in sizes], OUTPUT_MOST)
+
+
+def rounds_vectors(script):
+    """Every input of the checker; random placements on few nodes, and the largest; both sides of each limit."""
+    for i, data in enumerate(check_inputs()):
+        script.read(data)
+        call_rounds(script, 1 + i % 3)
+        if i % 7 == 0:
+            for q in (0, 4, LARGEST_64):
+                call_rounds(script, q)
+    draw = random.Random(53)
+    for kind in (2, 3, 5):
+        script.read(seven_rows(kind))
+        for q in range(5):
+            call_rounds(script, q)
+        for i in range(120):
+            script.read(random_placement(draw, kind, 2 + i % 9, draw.choice([1, 5, 30])))
+            for q in (1, 2, 3):
+                call_rounds(script, q)
+        for _ in range(3):
+            script.read(random_placement(draw, kind, 10, 256))
+            for q in (1, 2, 3):
+                call_rounds(script, q)
+        for n, b in ((9, 255), (10, 256), (10, 257), (11, 256), (11, 257), (5, 1), (4, 1), (3, 1), (2, 1), (255, 4_096)):
+            script.read(two_node_placement(kind, n, b))
+            for q in range(5):
+                call_rounds(script, q)
 
 
 def join_vectors(script):
@@ -638,7 +670,7 @@ def padded_vectors(script):
 def script_of_all():
     script = Script()
     for vectors in (number_vectors, small_files, placement_vectors, curve_vectors, join_vectors, plan_vectors, operator_vectors, commit_vectors,
-                    worst_vectors, padded_vectors, crowding_vectors, published_vectors):
+                    worst_vectors, rounds_vectors, padded_vectors, crowding_vectors, published_vectors):
         vectors(script)
     return script
 

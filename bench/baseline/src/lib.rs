@@ -4,6 +4,7 @@ pub mod crowding;
 pub mod file;
 pub mod join;
 pub mod number;
+pub mod rounds;
 pub mod sorted;
 pub mod split;
 pub mod text;

@@ -12,6 +12,7 @@ pub mod RequestG
 pub mod RequestH
 pub mod RequestI
 pub mod RequestJ
+pub mod RequestK
 pub mod Starred
 pub mod RequestE
 pub mod RequestHPlans

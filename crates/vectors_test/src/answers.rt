@@ -17,6 +17,7 @@ use planner::PlanResult;
 use refusal::Refusal;
 use refusal::Writing;
 use report::Reply;
+use rounds::RoundsAnswer;
 use worst::WorstCase;
 ghost use lib.ListN.{length};
 
@@ -212,5 +213,13 @@ pub(crate) fn worst(answer: WorstCase) -> [usize; 19] {
     match answer {
         WorstCase::Fewest(n) => numbers(0, n, 0),
         WorstCase::Refused(e) => refused(e),
+    }
+}
+
+// How many records are usable.
+pub(crate) fn played(answer: RoundsAnswer) -> [usize; 19] {
+    match answer {
+        RoundsAnswer::Usable(n) => numbers(0, n, 0),
+        RoundsAnswer::Refused(e) => refused(e),
     }
 }

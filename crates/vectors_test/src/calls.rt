@@ -85,6 +85,7 @@ fn told(call: usize, given: Given, input: &[u8]) -> [usize; 19] {
         4 => answers::number_read(number_code::read_number(input, given.a)),
         5 => answers::number_read(number_code::read_within(input, given.a, given.b, given.c)),
         8 => crowded(input, given.a, given.b, given.c, given.d),
+        20 => answers::played(rounds_code::rounds(input, given.a)),
         _ => unknown(),
     }
 }

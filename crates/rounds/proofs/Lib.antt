@@ -1,0 +1,10 @@
+pub mod Moves
+pub mod Counts
+pub mod Fewest
+pub mod Number
+pub mod Best
+pub mod States
+pub mod Played
+pub mod Listing
+pub mod Checking
+pub mod Worked
