@@ -73,7 +73,7 @@ member-picked failed (suc m) v w low high =
     go false f false q ih = ih (lt-of-other v w low (λ e. eqb-false w v q (sym e)))
 
 -- the nodes from 0 on are the nodes below n
-nodesFrom-snoc : (v m : ℕ) → nodesFrom v (suc m) ≡ nodesFrom v m ++ ((v + m) ∷ [])
+pub nodesFrom-snoc : (v m : ℕ) → nodesFrom v (suc m) ≡ nodesFrom v m ++ ((v + m) ∷ [])
 unfolding nodesFrom
 nodesFrom-snoc v zero = rw add-zero refl
 nodesFrom-snoc v (suc m) =

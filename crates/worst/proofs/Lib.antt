@@ -5,6 +5,8 @@ pub mod Among
 pub mod Hits
 pub mod Turns
 pub mod Steps
+pub mod Going
+pub mod Rest
 pub mod Filling
 pub mod Index
 pub mod Whole

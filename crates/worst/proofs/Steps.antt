@@ -1,5 +1,5 @@
 -- A search, step by step: each way in which a step ends, from what the functions that it calls give. Assumes nothing.
-use Prim.Native.Nat.{ℕ, suc, _+_, _-_, _≤_, _<_}
+use Prim.Native.Nat.{ℕ, _+_, _-_, _≤_, _<_}
 use native.Mathlib.Omega.{arith}
 use native.Mathlib.Nat.{le-refl, eq-or-lt-of-le}
 use native.Mathlib.Numerals.{add-one}
@@ -11,14 +11,13 @@ use lib.Seq.{take-take, take-at, drop-at, length-take-le, take-set-le, take-suc-
 use borrow.Author.Tests.{lt-ltb, le-ltb}
 use Rattle.lists.specs.Lists.{overStart}
 use Rattle.lists.proofs.Arith.{le-or-lt}
-use Rattle.packing.specs.declared.Node.{Node}
-use Rattle.worst.specs.Worst.{Worst, lower, through, nodesFrom}
-use Rattle.worst.specs.Records.{among, begin, size, onNode, usableBy, Index, HitsOf, few, raisedTo, loweredTo, lostTo, entriesOf}
+use Rattle.worst.specs.Worst.{through, nodesFrom}
+use Rattle.worst.specs.Records.{begin, size, usableBy, Index, HitsOf, few, raisedTo, loweredTo, lostTo, entriesOf}
 use Rattle.worst.specs.Searches.{Named, Raising, Raised, Lowering, Searching, LastChosen, NextChosen, Searched}
 use Rattle.worst.specs.declared.Search.{Search}
 use Rattle.worst.specs.declared.Entries.{Entries}
 use Rattle.worst.proofs.Through.{at, length-nodesFrom, through-zero, through-none, through-step}
-use Rattle.worst.proofs.Hits.{length-raised, length-lowered, onSet-snoc, few-hits, hits-raised, hits-lowered, usable-lost, entries-inside}
+use Rattle.worst.proofs.Hits.{length-raised, onSet-snoc, few-hits, hits-raised, hits-lowered, usable-lost, entries-inside}
 
 -- the search after the next node is left, and after it is chosen
 abbrev pub left : (search : Search) (least : ℕ) → Search

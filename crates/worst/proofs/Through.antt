@@ -7,7 +7,7 @@ use native.Mathlib.Numerals.{add-one}
 use mathlib.Core.Path.{_≡_, refl, sym, _∙_, ap, ap₂}
 use mathlib.Core.Logic.{_⊎_, inl, inr}
 use mathlib.Core.Bool.{Bool, true, false}
-use mathlib.Core.List.{List, [], _∷_, _++_}
+use mathlib.Core.List.{List, [], _∷_, _++_, append-assoc, append-nil}
 use lib.ListN.{length}
 use lib.Dec.{ltb}
 use borrow.Author.Tests.{ltb-true, ltb-false, le-ltb}
@@ -64,6 +64,18 @@ module _ (value : List ℕ → ℕ) where
   through-none chosen (suc j) (v ∷ nodes) found h =
       rw (through-none (chosen ++ (v ∷ [])) j nodes found (omega arith))
       (through-none chosen (suc j) nodes found (omega arith))
+
+  -- as many nodes as are to come make one set
+  pub through-all : (chosen : List ℕ) (j : ℕ) (nodes : List ℕ) (found : Worst) → length nodes ≡ j
+      → through value chosen j nodes found ≡ lower (value (chosen ++ nodes)) (chosen ++ nodes) found
+  unfolding through
+  through-all chosen zero [] found e = rw (append-nil chosen) refl
+  through-all chosen zero (v ∷ nodes) found e = absurd (omega arith)
+  through-all chosen (suc j) [] found e = absurd (omega arith)
+  through-all chosen (suc j) (v ∷ nodes) found e =
+      through-none chosen (suc j) nodes (through value (chosen ++ (v ∷ [])) j nodes found) (omega arith)
+      ∙ through-all (chosen ++ (v ∷ [])) j nodes found (omega arith)
+      ∙ ap (λ whole. lower (value whole) whole found) (append-assoc chosen (v ∷ []) nodes)
 
   -- the fewest never rises
   pub through-le : (chosen : List ℕ) (j : ℕ) (nodes : List ℕ) (found : Worst)

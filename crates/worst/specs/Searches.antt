@@ -69,3 +69,21 @@ pub record Searched (search : Search) (index hits set out hits′ set′ out′ 
   pub rest : drop (search .k) out′ ≡ drop (search .k) out
   pub counted : HitsOf index (take (search .chosen) set) (length hits) hits′
   pub same-chosen : take (search .chosen) set′ ≡ take (search .chosen) set
+
+-- every node that is left is to come, from the next one on
+pub record RestAsked (search : Search) (index hits set : List ℕ) : Type 0 where
+  pub is-index : Index index (length hits)
+  pub n-most : search .n ≤ 255
+  pub all : search .n + search .chosen ≡ search .k + search .next .0
+  pub k-most : search .k ≤ 255
+  pub more : search .chosen < search .k
+  pub set-room : search .k ≤ length set
+  pub counted : HitsOf index (take (search .chosen) set) (length hits) hits
+  pub hits-most : (i : ℕ) → onSet index (take (search .chosen) set) i ≤ search .chosen
+  pub usable-is : search .usable ≡ usableBy index (search .s) (length hits) (take (search .chosen) set)
+
+-- they are chosen
+pub record RestRaised (search : Search) (index hits set hits′ set′ : List ℕ) (usable : ℕ) : Type 0 where
+  pub whole : take (search .k) set′ ≡ take (search .chosen) set ++ nodesFrom (search .next .0) (search .n - search .next .0)
+  pub counted : HitsOf index (take (search .k) set′) (length hits) hits′
+  pub usable-is : usable ≡ usableBy index (search .s) (length hits) (take (search .k) set′)

@@ -8,47 +8,53 @@ use Rattle.worst_search.proofs.search.Reads as search′
 use Rattle.worst_search.proofs.+choose+search.Lts-search as search-lts
 use Rattle.worst_search.proofs.+choose+search.{statement}
 use Rattle.worst_search.proofs.+choose+search.Tie.{close}
-use Rattle.worst_search.proofs.+choose+search.Proof.Measures.{μ-choose, μ-search, choose-at, choose-below, search-at, search-below, callees}
+use Rattle.worst_search.proofs.+choose+search.Proof.Measures.{μ-choose, μ-search, choose-at, search-at, choose-calls, search-calls}
 use Rattle.worst_search.proofs.+choose+search.Proof.Choose as of-choose
 use Rattle.worst_search.proofs.+choose+search.Proof.Search as of-search
 
 pub +choose+search-spec : {M : Type 1} → statement M
 +choose+search-spec = close μ-choose μ-search (λ t. choose-lts.spec
-    (callees t)
+    (choose-calls t)
     (choose-at t)
     choose.Post
-    (of-choose.add-chosen t)
-    (of-choose.choose-last-requires t)
-    (of-choose.same-length t)
-    (of-choose.same-length-2 t)
-    (of-choose.same-length-3 t)
-    (of-choose.returns t)
     (of-choose.entries-of-requires t)
     (of-choose.raise-requires t)
     (of-choose.slice-write-set t)
-    (of-choose.add-t25 t)
+    (of-choose.add-t18 t)
+    (of-choose.add-t19 t)
     (of-choose.search-requires t)
     (of-choose.lower-requires t)
-    (of-choose.same-length-4 t)
-    (of-choose.same-length-5 t)
-    (of-choose.same-length-6 t)
-    (of-choose.returns-2 t))
+    (of-choose.same-length t)
+    (of-choose.same-length-2 t)
+    (of-choose.same-length-3 t)
+    (of-choose.returns t))
     λ t. search-lts.spec
-    (choose-below t, choose.Post, search-below t, search′.Post)
+    (search-calls t)
     (search-at t)
     search′.Post
     (of-search.cast-left t)
     (of-search.sub-left t)
     (of-search.sub-more t)
     (of-search.returns t)
-    (of-search.choose-requires t)
+    (of-search.choose-rest-requires t)
     (of-search.same-length t)
     (of-search.same-length-2 t)
     (of-search.same-length-3 t)
     (of-search.returns-2 t)
-    (of-search.add-t20 t)
-    (of-search.search-requires t)
+    (of-search.last-node-requires t)
     (of-search.same-length-4 t)
     (of-search.same-length-5 t)
     (of-search.same-length-6 t)
     (of-search.returns-3 t)
+    (of-search.last-two-requires t)
+    (of-search.same-length-7 t)
+    (of-search.same-length-8 t)
+    (of-search.same-length-9 t)
+    (of-search.returns-4 t)
+    (of-search.choose-requires t)
+    (of-search.add-t42 t)
+    (of-search.search-requires t)
+    (of-search.same-length-10 t)
+    (of-search.same-length-11 t)
+    (of-search.same-length-12 t)
+    (of-search.returns-5 t)

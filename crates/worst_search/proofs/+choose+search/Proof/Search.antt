@@ -1,24 +1,25 @@
 -- What `worst_search::search` needs, where `choose` and `search` hold for smaller measures. Assumes nothing.
 use Prim.Native.Nat.{ℕ}
 use native.Mathlib.Omega.{arith}
-use mathlib.Core.Path.{_≡_, _∙_}
-use Rattle.worst.proofs.Steps.{searched-zero, all-chosen, to-leave, left-searched}
+use Rattle.worst.proofs.Steps.{searched-zero, to-leave, left-searched}
 use borrow.Author.Needs.{needs}
 use borrow.Fn.Kinds.{In, Out}
-use Rattle.worst_search.proofs.choose.Reads as choose
 use Rattle.worst_search.proofs.search.Reads as search′
 use Rattle.worst_search.proofs.search.Kinds as search-kinds
 use Rattle.worst_search.proofs.+choose+search.Lts-search as lts
-use Rattle.worst_search.proofs.+choose+search.Proof.Measures.{choose-below, search-at, search-below}
+use Rattle.worst_search.proofs.+choose+search.Proof.Measures.{search-at, search-calls}
 
 -- a place of the code, or what is needed there
 abbrev At : (t : ℕ) → (lts.Claims → In 4 search-kinds.ps → Out 4 search-kinds.ps search-kinds.r → Type 0) → Type 0
-At t place = place (choose-below t, choose.Post, search-below t, search′.Post) (search-at t) search′.Post
+At t place = place (search-calls t) (search-at t) search′.Post
 
 module _ (t : ℕ) where
-  -- what the call was given
-  abbrev start : At t lts.After-choose → At t lts.Start
-  start c = c .before .before .before .before .before .before .before .before .before .before .before .before .before .before
+  -- what the call was given, and where more than two nodes are to come
+  abbrev start : At t lts.Else1 → At t lts.Start
+  start c = c .before .before .before .before .before .before .before
+
+  abbrev many : At t lts.After-choose → At t lts.Else4
+  many c = c .before .before .before .before
 
   pub cast-left : At t lts.Need-cast-left
   cast-left c = search needs
@@ -30,10 +31,10 @@ module _ (t : ℕ) where
   sub-more c = search needs
 
   pub returns : At t lts.Need-returns
-  returns c = searched-zero (c .before .before .before .before .before .before .before .before .before .before .pre .1) (c .if1 .taken)
+  returns c = searched-zero (c .before .before .before .before .before .before .before .pre .1) (c .if1 .taken)
 
-  pub choose-requires : At t lts.Need-choose-requires
-  choose-requires c κs = (omega (arith, c .before .before .before .before .before .before .before .before .before .before .before .before .before .pre .0), c .before .before .before .before .before .before .before .before .before .before .before .before .before .pre .1)
+  pub choose-rest-requires : At t lts.Need-choose-rest-requires
+  choose-rest-requires c κs = (start (c .before .before .before .before) .pre .1, c .before .before .before .if2 .taken)
 
   pub same-length : At t lts.Need-same-length
   same-length c = search needs
@@ -45,21 +46,12 @@ module _ (t : ℕ) where
   same-length-3 c = search needs
 
   pub returns-2 : At t lts.Need-returns-2
-  returns-2 c =
-      let done = c .before .before .before .before .before .before .before in
-      all-chosen (start done .pre .1) (done .choose .ensures) (done .choose .kept .1 .1 .0) (c .if2 .taken)
+  returns-2 c = c .before .before .before .before .before .before .choose-rest .ensures
 
-  pub add-t20 : At t lts.Need-add-t20
-  add-t20 c = omega (arith, start (c .before .before .before .before .before .before .before .before) .pre .1 .below, start (c .before .before .before .before .before .before .before .before) .pre .1 .n-most)
-
-  pub search-requires : At t lts.Need-search-requires
-  search-requires c κs =
-      let done = c .before .before .before .before .before .before .before .before .before .before .before in
-      let s = start done in
-      let kept = done .choose .kept in (
-        omega (arith, s .pre .0, s .pre .1 .below),
-        to-leave (s .pre .1) (done .choose .ensures) (kept .1 .1 .0) (kept .1 .1 .1 .0) (kept .1 .1 .1 .1 .0) (c .before .before .before .before .if2 .left),
-      )
+  pub last-node-requires : At t lts.Need-last-node-requires
+  last-node-requires c κs =
+      let s = start (c .before .before .before .before .before) in
+      (s .pre .1, omega (arith, c .before .before .before .if3 .taken, s .pre .1 .more))
 
   pub same-length-4 : At t lts.Need-same-length-4
   same-length-4 c = search needs
@@ -71,6 +63,56 @@ module _ (t : ℕ) where
   same-length-6 c = search needs
 
   pub returns-3 : At t lts.Need-returns-3
-  returns-3 c =
-      let done = c .before .before .before .before .before .before .before .before .before .before .before .before .before .before .before .before .before .before in
-      left-searched (start done .pre .1) (done .choose .ensures) (done .choose .kept .1 .1 .0) (c .before .before .before .before .before .before .search .ensures)
+  returns-3 c = c .before .before .before .before .last-node .ensures
+
+  pub last-two-requires : At t lts.Need-last-two-requires
+  last-two-requires c κs =
+      let s = start (c .before .before .before .before .before .before) in
+      (s .pre .1, omega (arith, c .before .before .before .if4 .taken, s .pre .1 .more))
+
+  pub same-length-7 : At t lts.Need-same-length-7
+  same-length-7 c = search needs
+
+  pub same-length-8 : At t lts.Need-same-length-8
+  same-length-8 c = search needs
+
+  pub same-length-9 : At t lts.Need-same-length-9
+  same-length-9 c = search needs
+
+  pub returns-4 : At t lts.Need-returns-4
+  returns-4 c = c .before .before .before .before .before .before .last-two .ensures
+
+  pub choose-requires : At t lts.Need-choose-requires
+  choose-requires c κs =
+      let s = start (c .before .before .before .before .before .before) in (
+        omega (arith, s .pre .0),
+        (s .pre .1, omega (arith, s .pre .1 .more, c .before .before .before .before .if3 .left, c .before .before .before .if4 .left)),
+      )
+
+  pub add-t42 : At t lts.Need-add-t42
+  add-t42 c =
+      let p = start (many (c .before .before .before .before .before .before .before) .before .before .before) .pre .1 in
+      omega (arith, p .below, p .n-most)
+
+  pub search-requires : At t lts.Need-search-requires
+  search-requires c κs =
+      let done = c .before .before .before .before .before .before .before .before .before .before in
+      let s = start (many done .before .before .before) in
+      let kept = done .choose .kept in (
+        omega (arith, s .pre .0, s .pre .1 .below),
+        to-leave (s .pre .1) (done .choose .ensures) (kept .1 .1 .0) (kept .1 .1 .1 .0) (kept .1 .1 .1 .1 .0) (many done .before .before .if2 .left),
+      )
+
+  pub same-length-10 : At t lts.Need-same-length-10
+  same-length-10 c = search needs
+
+  pub same-length-11 : At t lts.Need-same-length-11
+  same-length-11 c = search needs
+
+  pub same-length-12 : At t lts.Need-same-length-12
+  same-length-12 c = search needs
+
+  pub returns-5 : At t lts.Need-returns-5
+  returns-5 c =
+      let done = c .before .before .before .before .before .before .before .before .before .before .before .before .before .before .before .before .before in
+      left-searched (start (many done .before .before .before) .pre .1) (done .choose .ensures) (done .choose .kept .1 .1 .0) (c .before .before .before .before .before .before .search .ensures)
