@@ -66,13 +66,17 @@ fn first_marked(rows: &[u8], c: usize, r: usize, marks: &[bool]) -> RowFound
     RowFound::Nothing
 }
 
-// The first of the c rows of r bytes that names a node out of service.
+// The first of the c rows of r bytes that names a node out of service. Most files have none, and then no row is looked at.
 pub fn first_naming(rows: &[u8], c: usize, r: usize, dark: Dark) -> RowFound
     requires { ⌜ c * r ≤ length (now rows) ⌝ }
     requires { ⌜ DarkFits dark ⌝ }
     ensures { λ found. ⌜ found ≡ rowFound (firstNaming (darkList dark) (rowsAt r c (now (rows .entry)))) ⌝ }
 {
+    let count = dark.count;
+    if count == 0 {
+        return RowFound::Nothing;
+    }
     let nodes = dark.nodes;
-    let marks = mark_nodes(dark.count, nodes);
+    let marks = mark_nodes(count, nodes);
     first_marked(rows, c, r, &marks)
 }

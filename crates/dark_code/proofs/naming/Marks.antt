@@ -4,13 +4,14 @@ use native.Mathlib.Numerals.{add-one}
 use mathlib.Core.Path.{_≡_, refl, _∙_, ap}
 use mathlib.Core.Bool.{Bool, true, false, _||_}
 use mathlib.Core.List.{List, [], _∷_, _++_}
+use mathlib.Core.Option.{none}
 use lib.Dec.{eqb}
 use lib.ListN.{length, take, drop, getD, set, replicate, drop-of-length-le}
 use lib.Seq.{take-suc, drop-cons, getD-set-same, getD-set-other}
 use borrow.Author.Tests.{eqb-true, eqb-false}
 use Rattle.lists.specs.Lists.{any, firstWhere}
 use Rattle.lists.proofs.Alls.{all-of}
-use Rattle.lists.proofs.Finds.{any-congr-all}
+use Rattle.lists.proofs.Finds.{any-congr-all, any-none, firstWhere-none}
 use Rattle.packing.specs.Rows.{member}
 use Rattle.layers.specs.Layers.{names, firstNaming}
 
@@ -72,3 +73,11 @@ module _ (f : ℕ → Bool) (row : List ℕ) (i : ℕ) where
   pub any-end : length row ≤ i → any f (drop i row) ≡ false
   unfolding any
   any-end h = rw (drop-of-length-le row h)
+
+-- with no node out of service no row names one
+pub naming-none : (count : ℕ) (nodes : List ℕ) (rows : List (List ℕ)) → count ≡ 0 → firstNaming (take count nodes) rows ≡ none
+unfolding firstNaming names member
+naming-none count nodes rows e =
+    rw e
+    (firstWhere-none (names []) rows
+    (all-of (λ row. names [] row ≡ false) (λ row. any-none (λ v. member v []) row (all-of (λ v. member v [] ≡ false) (λ v. refl) row)) rows))
