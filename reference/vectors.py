@@ -24,6 +24,7 @@ from limits import one_row  # noqa: E402
 from operators import grant, plan_operator  # noqa: E402
 from reading import LARGEST, Refused, base_numbers, in_groups, numbers  # noqa: E402
 from seven import DARK, DARK_NINE, DARK_P, NINE, NINES, P, P_LISTED, SEVEN  # noqa: E402
+from replay import replay  # noqa: E402
 from rounds import rounds  # noqa: E402
 from script import FILLS, LARGEST_64, Script, answer  # noqa: E402
 from worst import worst_case  # noqa: E402
@@ -167,6 +168,14 @@ def call_worst(script, room):
 
 def call_rounds(script, q):
     script.call("rounds", [q], answer(rounds, script.input, q))
+
+
+def call_replay(script, data, log):
+    """The log stands after the placement, six bytes an event; the place where the placement ends is given. A result has the number, and
+    where there is an event 1 and its index."""
+    script.read(data + b"".join(time.to_bytes(4, "little") + bytes([node, down]) for time, node, down in log))
+    given = answer(replay, data, log)
+    script.call("replay", [len(data)], given[:2] + [1] + given[2:] if given[0] == 0 and log else given)
 
 
 def call_join(script, packs, room):
@@ -412,6 +421,75 @@ def rounds_vectors(script):
             script.read(two_node_placement(kind, n, b))
             for q in range(5):
                 call_rounds(script, q)
+
+
+def random_log(draw, n, events, most=2 ** 32 - 1):
+    """A good log: each event changes a node's state, and no time falls."""
+    times, down, log = sorted(draw.randint(0, most) for _ in range(events)), set(), []
+    for time in times:
+        node = draw.randrange(n)
+        log.append((time, node, node not in down))
+        down ^= {node}
+    return log
+
+
+def bad_events(n, log, at):
+    """The log with event `at` bad: earlier than the one before, or a node not below n, or a change to the state that a node is in, alone
+    and with a time that is earlier too; then with a later event bad in the other way."""
+    time, node, down = log[at]
+    before = log[at - 1][0] if at else 0
+    for bad in ((time, n, down), (time, 255, down), (time, node, not down), (max(before - 1, 0), node, down), (max(before - 1, 0), n, down),
+                (0, node, not down), (before, node, down)):
+        changed = log[:at] + [bad] + log[at + 1:]
+        yield changed
+        yield changed + [(0, node, down)]
+        yield changed + [(2 ** 32 - 1, n, True)]
+
+
+def whole_nodes(draw, n, order):
+    """All nodes down and up again: in order, from the last, or in any order; all at one time or one a second."""
+    nodes = list(range(n))
+    if order == 1:
+        nodes.reverse()
+    elif order == 2:
+        draw.shuffle(nodes)
+    for times in ([0] * 2 * n, [2 ** 32 - 1] * 2 * n, list(range(2 * n))):
+        yield [(time, node, i < n) for i, (time, node) in enumerate(zip(times, nodes + nodes))]
+
+
+def replay_vectors(script):
+    """Inputs of the checker with a log; random logs on placements of every kind; every refusal at the first, a middle and the last
+    event; up and down of all nodes; equal times, time 0 and the largest; the longest logs."""
+    draw = random.Random(83)
+    for i, data in enumerate(check_inputs()):
+        if i % 3 == 0 and len(data) < 32_000:  # the test program's input has room for the log too
+            call_replay(script, data, [[], [(5, 0, True)], [(5, 1, True), (4, 0, True)], [(0, 0, False)]][i // 3 % 4])
+    for kind in (2, 3, 5):
+        data = NINES[kind]
+        for log in ([], [(0, 0, True)], [(2 ** 32 - 1, 6, True)], [(0, 0, True), (2 ** 32 - 1, 0, False)], [(0, 6, True)] + [(0, 6, False), (0, 6, True)] * 4):
+            call_replay(script, data, log)
+        for order in range(3):
+            for log in whole_nodes(draw, 7, order):
+                call_replay(script, data, log)
+        for size in (1, 2, 3, 9):
+            log = random_log(draw, 7, size, 9)
+            for at in {0, size // 2, size - 1}:
+                for bad in bad_events(7, log, at):
+                    call_replay(script, data, bad)
+        for i in range(150):
+            n = 2 + i % 12
+            small = random_placement(draw, kind, n, draw.choice([1, 5, 30]))
+            call_replay(script, small, random_log(draw, n, draw.choice([1, 4, 20, 60]), draw.choice([0, 3, 2 ** 32 - 1])))
+    wide = spread_rows(3, 255, 2, 2, 100, 255)
+    for order in range(3):
+        for log in whole_nodes(draw, 255, order):
+            call_replay(script, wide, log)
+    for n, r, s, b, events in ((255, 5, 5, 300, 2_000), (255, 3, 1, 300, 2_000), (40, 4, 3, 300, 2_000), (255, 5, 2, 4_096, 100), (254, 2, 1, 4_096, 100)):
+        call_replay(script, spread_rows(5, n, r, s, s, b), random_log(draw, n, events))
+    call_replay(script, NINE, random_log(draw, 7, 2_048))
+    late = random_log(draw, 7, 2_048)
+    for bad in bad_events(7, late[:2_047], 2_046):
+        call_replay(script, NINE, bad)
 
 
 def join_vectors(script):
@@ -670,7 +748,7 @@ def padded_vectors(script):
 def script_of_all():
     script = Script()
     for vectors in (number_vectors, small_files, placement_vectors, curve_vectors, join_vectors, plan_vectors, operator_vectors, commit_vectors,
-                    worst_vectors, rounds_vectors, padded_vectors, crowding_vectors, published_vectors):
+                    worst_vectors, rounds_vectors, replay_vectors, padded_vectors, crowding_vectors, published_vectors):
         vectors(script)
     return script
 

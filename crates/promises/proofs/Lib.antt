@@ -13,6 +13,7 @@ pub mod RequestH
 pub mod RequestI
 pub mod RequestJ
 pub mod RequestK
+pub mod RequestL
 pub mod Starred
 pub mod RequestE
 pub mod RequestHPlans

@@ -16,6 +16,7 @@ use planner::PlanAnswer;
 use planner::PlanResult;
 use refusal::Refusal;
 use refusal::Writing;
+use replay::Replayed;
 use report::Reply;
 use rounds::RoundsAnswer;
 use worst::WorstCase;
@@ -221,5 +222,34 @@ pub(crate) fn played(answer: RoundsAnswer) -> [usize; 19] {
     match answer {
         RoundsAnswer::Usable(n) => numbers(0, n, 0),
         RoundsAnswer::Refused(e) => refused(e),
+    }
+}
+
+// The lowest number, 1 and the event; for an empty log the number alone.
+pub(crate) fn replayed(answer: Replayed) -> [usize; 19] {
+    match answer {
+        Replayed::Lowest(number, event) => [
+            0,
+            number,
+            1,
+            event,
+            0,
+            0,
+            0,
+            0,
+            0,
+            0,
+            0,
+            0,
+            0,
+            0,
+            0,
+            0,
+            0,
+            0,
+            0,
+        ],
+        Replayed::Quiet(number) => numbers(0, number, 0),
+        Replayed::Refused(e) => refused(e),
     }
 }

@@ -86,6 +86,7 @@ fn told(call: usize, given: Given, input: &[u8]) -> [usize; 19] {
         5 => answers::number_read(number_code::read_within(input, given.a, given.b, given.c)),
         8 => crowded(input, given.a, given.b, given.c, given.d),
         20 => answers::played(rounds_code::rounds(input, given.a)),
+        21 => crate::replays::replayed(given, input),
         _ => unknown(),
     }
 }

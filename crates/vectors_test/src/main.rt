@@ -3,6 +3,7 @@
 mod answers;
 mod calls;
 mod compare;
+mod replays;
 mod script;
 mod tell;
 mod walks;

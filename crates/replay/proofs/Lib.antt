@@ -1,0 +1,11 @@
+pub mod Parts
+pub mod Hits
+pub mod Down
+pub mod Moves
+pub mod Steps
+pub mod Pass
+pub mod Begin
+pub mod Logs
+pub mod Meaning
+pub mod Turns
+pub mod Worked

@@ -1,0 +1,4 @@
+pub mod Log
+pub mod Replays
+pub mod Answers
+pub mod Board
