@@ -1,4 +1,4 @@
-"""Counts the instructions of single calls of `ask` and `commit`, ours and the baseline's.
+"""Counts the instructions of single calls of `ask`, `commit` and `page`, ours and the baseline's.
 
     python3 bench/calls.py OURS BASELINE [--only TEXT]
 
@@ -6,7 +6,7 @@ OURS has the test program that `rt check vectors_test` builds (target/bin), BASE
 test program: a file of many vectors less one of a single vector, and less the same of `read_number` lent an output as long that is to
 be left as it was, which is what the test program itself takes to fill its slices and to compare as many bytes. The baseline's are
 many turns less one.
-Instructions are callgrind's, on the inputs `plan-*` of inputs.py; the pack's check is in both.
+Instructions are callgrind's, on the inputs `plan-*` of inputs.py, of `page` on `check-*`; the check of the pack or placement is in both.
 """
 import argparse
 import sys
@@ -16,6 +16,7 @@ from pathlib import Path
 REPOSITORY = Path(__file__).resolve().parent.parent
 sys.path.insert(0, str(REPOSITORY / "reference"))
 
+from cabinet_page import page  # noqa: E402
 from committing import ask, commit  # noqa: E402
 from document01 import Refused, plan, read_number  # noqa: E402
 from inputs import inputs  # noqa: E402
@@ -23,6 +24,7 @@ from run import callgrind, words_for  # noqa: E402
 from script import FILLS, Script  # noqa: E402
 
 TURNS = 20
+PAGES = ("check-nine", "check-r2", "check-r5", "check-r5-layer0")
 
 
 def vectors(pack, turns, call):
@@ -81,6 +83,15 @@ def measured(words, base, folder, name, data):
         print(f"| `{call}` of `{name}` | {mine:,.0f} | {theirs:,.0f} | {mine / theirs:.2f} |", flush=True)
 
 
+def page_measured(words, base, folder, name, data):
+    text, source = page(data), folder / "placement"
+    source.write_bytes(data)
+    mine = ours(words, folder, data, lambda to: to.call("page", [], [0, len(text)], room=len(text), written=text))
+    mine -= ours(words, folder, data, lambda to: unread(to, len(text), len(text)))
+    theirs = (callgrind(base + ["page", str(1 + TURNS)], source) - callgrind(base + ["page", "1"], source)) / TURNS
+    print(f"| `page` of `{name}` | {mine:,.0f} | {theirs:,.0f} | {mine / theirs:.2f} |", flush=True)
+
+
 def main():
     options = argparse.ArgumentParser(description=__doc__.splitlines()[0])
     options.add_argument("ours", type=Path)
@@ -94,6 +105,8 @@ def main():
         for name, data in inputs():
             if name.startswith("plan-") and given.only in name:
                 measured(words, base, Path(folder), name, data)
+            if name in PAGES and given.only in name:
+                page_measured(words, base, Path(folder), name, data)
 
 
 if __name__ == "__main__":

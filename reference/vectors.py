@@ -14,8 +14,10 @@ from pathlib import Path
 sys.path.insert(0, str(Path(__file__).resolve().parent.parent / "packings"))
 
 import chunks  # noqa: E402
+import limits  # noqa: E402
 import document01 as reference  # noqa: E402
-from cases import check_inputs, padded, plan_inputs, random_order, random_pack, random_placement, random_rows, seven_rows, small_placement, two_node_placement  # noqa: E402
+from cabinet_page import page  # noqa: E402
+from cases import check_inputs, of_kind, padded, plan_inputs, random_order, random_pack, random_placement, random_rows, seven_rows, small_placement, two_node_placement  # noqa: E402
 from check_packings import pack_bytes  # noqa: E402
 from committing import ask, commit, five  # noqa: E402
 from constructions import catalogue  # noqa: E402
@@ -178,6 +180,15 @@ def call_replay(script, data, log):
     script.call("replay", [len(data)], given[:2] + [1] + given[2:] if given[0] == 0 and log else given)
 
 
+def call_page(script, room):
+    try:
+        text = page(script.input, room)
+    except Refused as e:
+        script.call("page", [], [e.number, e.place], room=room)
+        return
+    script.call("page", [], [0, len(text)], room=room, written=text)
+
+
 def call_join(script, packs, room):
     """The packs stand one after another in the input; their number and the places where the first two end are given."""
     script.read(b"".join(packs))
@@ -281,6 +292,8 @@ def placement_vectors(script):
         if len(data) < 3_000 or i % 4 == 0:
             call_walk(script, i % 3)
         curve_edges(script, i)
+        if i % 5 == 0:
+            call_page(script, i % 3)
     for room in (0, 1, LINE_ROOM - 1):
         call_check_reply(script, room)
 
@@ -363,6 +376,49 @@ def worst_vectors(script):
             script.read(spread_rows(kind, n, r, s, k, b))
             for room in (k, k + 3, k - 1, 0):
                 call_worst(script, room)
+
+
+def page_edges(script, data):
+    """Outputs that are just long enough, longer, one short, a line short, and none."""
+    script.read(data)
+    size = len(page(data))
+    for room in (size, size + 3, size - 1, size - 27, 0):
+        call_page(script, room)
+
+
+def one_record(kind, r, nodes):
+    """One record of r of 255 nodes, the first ones named."""
+    f = reference.figure(kind, 1, 1, 1, [(1, 1)])
+    return numbers(*base_numbers(kind, 255, r, []), 1, 1, 1, f, 1, 1) + bytes(nodes[:r])
+
+
+def page_vectors(script):
+    """Pages of document 01's example, of one record with nodes of one to three digits, of random placements of every r and kind, of a file
+    whose records stand in all five layers, and the longest; outputs at their edges, and bad files beside short outputs."""
+    draw = random.Random(61)
+    for data in (*NINES.values(), *SEVEN.values(), DARK_NINE):
+        page_edges(script, data)
+    for kind, r in product((2, 3, 5), (2, 3, 4, 5)):
+        for first in (0, 7, 98, 250):
+            page_edges(script, one_record(kind, r, range(first, first + 5)))
+        page_edges(script, one_record(kind, r, (9, 10, 99, 100, 254)))
+    seen = set()
+    while len(seen) < 120:
+        n, r, pack = random_pack(draw)
+        order = random_order(draw, n, r, 24)
+        if answer(reference.plan, pack, *order)[0]:
+            continue
+        data, kind = reference.plan(pack, *order)[0], (5, 3, 2)[len(seen) % 3]
+        if kind == 5 or not reference.check_placement(data)["dark"]:
+            seen.add(data)
+            page_edges(script, of_kind(kind, data))
+    for kind, sizes in product((2, 3, 5), ([2, 3, 1, 2, 3], [0, 0, 1, 0, 9], [5, 0, 0, 0, 0], [1, 0, 1, 0, 1])):
+        page_edges(script, limits.placement(kind, 7, sizes))
+    for data in (b"", NINE[:-1], NINE + b"\0", P, bytes([6]) + NINE[1:], NINE[:-1] + bytes([7]), NINE[:-1] + bytes([6])):
+        script.read(data)
+        for room in (0, 269, 270, 300):
+            call_page(script, room)
+    page_edges(script, limits.placement(5, 7, limits.EVERY_LAYER))
 
 
 def pair_pack(n, mu, m, layer=0, dark=None):
@@ -748,7 +804,7 @@ def padded_vectors(script):
 def script_of_all():
     script = Script()
     for vectors in (number_vectors, small_files, placement_vectors, curve_vectors, join_vectors, plan_vectors, operator_vectors, commit_vectors,
-                    worst_vectors, rounds_vectors, replay_vectors, padded_vectors, crowding_vectors, published_vectors):
+                    worst_vectors, rounds_vectors, replay_vectors, page_vectors, padded_vectors, crowding_vectors, published_vectors):
         vectors(script)
     return script
 

@@ -52,6 +52,7 @@ pub struct Placement {
     /// The place of the first row.
     pub first: usize,
     pub most: usize,
+    pub layers: [Layer; 5],
 }
 
 impl<'a> Pack<'a> {
@@ -97,7 +98,7 @@ impl Placement {
         if figure != b - lost {
             return refused(8, figure_at);
         }
-        Ok(Placement { n, r, s, k, b, figure, first: head.at, most })
+        Ok(Placement { n, r, s, k, b, figure, first: head.at, most, layers })
     }
 }
 

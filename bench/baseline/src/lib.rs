@@ -4,6 +4,7 @@ pub mod crowding;
 pub mod file;
 pub mod join;
 pub mod number;
+pub mod page;
 pub mod replay;
 pub mod rounds;
 pub mod sorted;

@@ -14,6 +14,7 @@ pub mod RequestI
 pub mod RequestJ
 pub mod RequestK
 pub mod RequestL
+pub mod RequestM
 pub mod Starred
 pub mod RequestE
 pub mod RequestHPlans

@@ -189,6 +189,7 @@ pub(crate) fn answer(
         17 => ask(given, input, work),
         18 => commit(given, input, out),
         19 => answers::worst(worst_code::worst_case(input, out)),
+        22 => answers::wrote(page_code::page(input, out)),
         _ => told(call, given, input),
     }
 }

@@ -12,8 +12,11 @@ use script::Given;
 use script::Head;
 use script::Part;
 
-// How many bytes or entries the longest lent slice has.
-const LENT_MOST: usize = 21_000;
+// How many entries the longest working slice has.
+const WORK_MOST: usize = 21_000;
+
+// How many bytes the longest output has: a page of 4,096 records, and some more.
+const OUT_MOST: usize = 111_000;
 
 // What the call answers, lent as many entries and bytes as the vector says.
 fn lend(call: usize, given: Given, input: &[u8], work: &mut [u16], out: &mut [u8]) -> [usize; 19] {
@@ -33,8 +36,8 @@ fn lend(call: usize, given: Given, input: &[u8], work: &mut [u16], out: &mut [u8
 fn called(call: usize, given: Given, input: &[u8], written: &[u8]) -> [usize; 19] {
     let fill = script::byte_of(given.fill);
     let entry = compare::entry_of(fill);
-    let mut out = [fill; LENT_MOST];
-    let mut work = [entry; LENT_MOST];
+    let mut out = [fill; OUT_MOST];
+    let mut work = [entry; WORK_MOST];
     let answer = lend(call, given, input, &mut work, &mut out);
     if compare::left(script::start_of(&out, given.room), written, fill) {
         if compare::kept(&work, given.free, given.entries, entry) {
@@ -105,7 +108,7 @@ fn run(bytes: &mut [u8], written: &mut [u8], counts: &mut [usize]) {
 // One byte more than the programs read fits the input.
 fn main() {
     let mut bytes = [0u8; 32_769];
-    let mut written = [0u8; LENT_MOST];
+    let mut written = [0u8; OUT_MOST];
     let mut counts = [0usize; tell::COUNTS];
     run(&mut bytes, &mut written, &mut counts);
     tell::tell_kinds(&counts);
