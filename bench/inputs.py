@@ -17,6 +17,8 @@ sys.path.insert(0, str(REPOSITORY / "reference"))
 from chunks import join, three_packs  # noqa: E402
 from document01 import check_pack, check_reply, figure  # noqa: E402
 from cases import order  # noqa: E402
+from feeders import bounded, own  # noqa: E402
+from feeders import placement as fed_placement  # noqa: E402
 from reading import base_numbers, numbers  # noqa: E402
 from seven import NINE, P  # noqa: E402
 
@@ -121,6 +123,21 @@ def dark_inputs(draw):
         yield f"plan-dark{size}", order(5, 6, MOST) + pack(layers, NODES, 5, dark)
 
 
+def feeder_inputs(draw):
+    """The same rows as a placement of kind 5, and of kind 6 on 128 feeders in no order and with each node on its own."""
+    feeders = draw.sample([v % 128 for v in range(NODES)], NODES)
+    nodes = [[v for v in range(NODES) if feeders[v] == f] for f in range(128)]
+    layers = []
+    for size in even_sizes(MOST, 5):
+        layers.append([tuple(sorted(draw.choice(nodes[f]) for f in draw.sample(range(128), 5))) for _ in range(size)])
+    files = {"check-feeders-k5": own(5, NODES, 5, 5, 8, layers),
+             "check-feeders": fed_placement(5, 8, 128, feeders, bounded(feeders, layers)),
+             "check-feeders255": own(6, NODES, 5, 5, 8, layers, draw.sample(range(NODES), NODES))}
+    for name, data in files.items():
+        assert check_reply(data).startswith(b"accepted")
+        yield name, data
+
+
 def bounds_for(least, parts):
     """The least joined mu and each pack's, where the pack's goes into it so many times and holds its rows."""
     joined = lcm(*parts)
@@ -154,6 +171,7 @@ def inputs():
     yield from load_inputs(random.Random(32))
     yield from dark_inputs(random.Random(33))
     yield from join_inputs(random.Random(34))
+    yield from feeder_inputs(random.Random(35))
 
 
 def main(folder):

@@ -7,6 +7,7 @@ from itertools import combinations, islice
 
 from dark import listed_orders, listed_placements, random_list, row_of_dark
 from document01 import check_placement, figure, first_crowded, pack_bytes, plan_reply
+from feeders import fed_orders, fed_placements, of_feeders, two_on_one
 from limits import largest_orders, largest_placements
 from reading import LARGEST, base_numbers, in_groups, number_bytes, numbers, read_number
 from seven import DARK_P, NINE, NINES, P, P_LISTED, SEVEN
@@ -201,6 +202,21 @@ def half_means():
         yield plan_reply(order(1, 1, b) + pack)
 
 
+def small_fed(draw):
+    """A small placement of kind 6."""
+    return of_feeders(draw, small_placement(draw, 5) if draw.random() < 0.5 else random_placement(draw, 5, draw.randint(2, 12), 9))
+
+
+def random_fed():
+    """Small placements of kind 6, the same damaged, with another figure or bound, and with two nodes of a row on one feeder."""
+    draw = random.Random(6)
+    for i in range(100):
+        data = small_fed(draw)
+        yield data
+        yield damaged(draw, data)
+        yield (other_figure, two_on_one)[i % 2](draw, data)
+
+
 def check_inputs():
     """Inputs of the program `check`."""
     draw = random.Random(2311)
@@ -219,6 +235,8 @@ def check_inputs():
         yield from islice(largest_placements(kind), 3 if kind == 3 else None)
     yield from half_means()
     yield from listed_placements()
+    yield from fed_placements()
+    yield from random_fed()
     made = 0
     while made < 250:
         n, r, pack = random_pack(draw, extra=1)
@@ -271,6 +289,7 @@ def plan_inputs():
     yield from edge_plans()
     yield from largest_orders()
     yield from listed_orders()
+    yield from fed_orders()
     for _ in range(450):
         n, r, pack = random_pack(draw, most=draw.choice([6, 20]), extra=draw.choice([2, 2, -1]))
         s, k, b = random_order(draw, n, r, 40)

@@ -16,12 +16,12 @@ def pack(n, r, dark, layers, kind=4):
     return pack_bytes({"kind": kind, "n": n, "r": r, "dark": dark, "layers": layers})
 
 
-def placement(n, r, dark, k, layers, more=0):
-    """A placement of kind 5 with a layer below s for each of `layers`, its figure `more` than the formula's."""
+def placement(n, r, dark, k, layers, more=0, kind=5):
+    """A placement of kind 5, or 6 up to its rows, with a layer below s for each of `layers`, its figure `more` than the formula's."""
     heads = [(bound, len(rows)) for bound, rows in layers]
     s, b = len(layers), sum(c for _, c in heads)
-    f = figure(5, s, k, b, heads) + more
-    head = numbers(*base_numbers(5, n, r, dark), s, k, b, f, *(v for head in heads for v in head))
+    f = figure(kind, s, k, b, heads) + more
+    head = numbers(*base_numbers(kind, n, r, dark), s, k, b, f, *(v for head in heads for v in head))
     return head + bytes(node for _, rows in layers for row in rows for node in row)
 
 

@@ -1,5 +1,5 @@
 """Document 01 in its simplest form: packs, placements, planning, the row walk and the two programs' replies; with document
-02's requests (a), (b), (c), (d) and (h).
+02's requests (a), (b), (c), (d), (h) and (n).
 
 Written from the documents alone, with brute force where it can. Standard library only.
 """
@@ -10,7 +10,8 @@ from itertools import combinations, product
 from math import comb
 from operator import add
 
-from reading import LARGEST, LISTED, Refused, base_numbers, number_bytes, numbers, read_base, read_number, read_within, write_number  # noqa: F401
+from reading import (FED, LARGEST, LISTED, Refused, base_numbers, number_bytes, numbers, read_base, read_feeders, read_number,  # noqa: F401
+                     read_within, write_number)  # noqa: F401
 
 
 # --- rows
@@ -33,28 +34,43 @@ def first_crowded(rows, x, bound):
     return None
 
 
-def check_rows(data, at, n, r, dark, heads):
-    """heads: (bound, size) of each layer. The layers' rows, from `at` on, which name no node of `dark`."""
-    size = sum(c for _, c in heads)
+def on_feeders(feeders, rows):
+    """Each node's feeder in its place, ascending (document 02 (n)); without feeders the rows themselves."""
+    return rows if feeders is None else [tuple(sorted(feeders[node] for node in row)) for row in rows]
+
+
+def read_rows(data, at, r, size):
+    """So many rows from `at` on, and the place after them."""
     end = at + size * r
     if len(data) < end:
         raise Refused(1, len(data))
+    return [tuple(data[at + i * r:at + (i + 1) * r]) for i in range(size)], end
+
+
+def check_end(data, end):
     if len(data) > end:
         raise Refused(5, end)
-    rows = [tuple(data[at + i * r:at + (i + 1) * r]) for i in range(size)]
+
+
+def check_rows(rows, at, n, r, dark, heads, feeders=None):
+    """heads: (bound, size) of each layer. The layers' rows, which stand from `at` on and name no node of `dark`. Where there are
+    feeders, one for each node, no row has two nodes on one, and the packing test is over feeders."""
     for i, row in enumerate(rows):
         if not good_row(row, n):
             raise Refused(6, at + i * r)
     for i, row in enumerate(rows):
         if not set(row).isdisjoint(dark):
             raise Refused(15, at + i * r)
+    for i, row in enumerate(on_feeders(feeders, rows)):
+        if len(set(row)) < r:
+            raise Refused(21, at + i * r)
     layers, done = [], 0
     for bound, c in heads:
         layers.append((bound, rows[done:done + c]))
         done += c
     done = 0
     for x, (bound, mine) in enumerate(layers):
-        i = first_crowded(mine, x, bound)
+        i = first_crowded(on_feeders(feeders, mine), x, bound)
         if i is not None:
             raise Refused(7, at + (done + i) * r)
         done += len(mine)
@@ -74,7 +90,9 @@ def check_pack(data):
         m, at = read_within(data, at, 0, 4096 - so_far)
         so_far += m
         heads.append((mu, m))
-    return {"kind": kind, "n": n, "r": r, "dark": dark, "at": at, "layers": check_rows(data, at, n, r, dark, heads)}
+    rows, end = read_rows(data, at, r, so_far)
+    check_end(data, end)
+    return {"kind": kind, "n": n, "r": r, "dark": dark, "at": at, "layers": check_rows(rows, at, n, r, dark, heads)}
 
 
 def pack_bytes(pack):
@@ -101,7 +119,7 @@ def nested_floors(s, k, x, bound):
 
 
 # the rule of loss of each kind of placement, and the kind that the planner writes
-RULES = {2: one_floor, 3: nested_floors, 5: nested_floors}
+RULES = {2: one_floor, 3: nested_floors, 5: nested_floors, 6: nested_floors}
 PLANNED = 5
 
 
@@ -126,10 +144,21 @@ def check_placement(data):
         c, at = read_within(data, at, left if x == s - 1 else 0, left)
         left -= c
         heads.append((bound, c))
-    layers = check_rows(data, at, n, r, dark, heads)
+    rows, end = read_rows(data, at, r, b)
+    g, feeders = n, None
+    if kind == FED:
+        g, feeders, end = read_feeders(data, end, n, r, k)
+    check_end(data, end)
+    layers = check_rows(rows, at, n, r, dark, heads, feeders)
     if f != figure(kind, s, k, b, heads):
         raise Refused(8, figure_at)
-    return {"kind": kind, "n": n, "r": r, "dark": dark, "s": s, "k": k, "b": b, "F": f, "at": at, "layers": layers}
+    return {"kind": kind, "n": n, "r": r, "dark": dark, "s": s, "k": k, "b": b, "F": f, "at": at, "layers": layers,
+            "units": g, "feeders": feeders}
+
+
+def unit_rows(placement):
+    """Each record's units, which are what fails: feeders in a placement of kind 6, `units` of them, and nodes in all others."""
+    return on_feeders(placement["feeders"], [row for _, layer in placement["layers"] for row in layer])
 
 
 def usable(rows, s, failed):
@@ -137,20 +166,21 @@ def usable(rows, s, failed):
 
 
 def worst_case(placement):
-    """The fewest usable records over every choice of k failed nodes (definition 1 of the paper)."""
-    rows = [row for _, layer in placement["layers"] for row in layer]
+    """The fewest usable records over every choice of k failed nodes (definition 1 of the paper), of feeders in kind 6."""
+    rows = unit_rows(placement)
     return min(usable(rows, placement["s"], set(failed))
-               for failed in combinations(range(placement["n"]), placement["k"]))
+               for failed in combinations(range(placement["units"]), placement["k"]))
 
 
 def curve(data, output=None):
-    """Document 02 (c), (d): the figure for each number of failures from s to n-1, by the rule of the file's kind. output: the entries lent, None for enough."""
+    """Document 02 (c), (d), (n): the figure for each number of failures from s to n-1, in kind 6 to g-1, by the rule of the file's
+    kind. output: the entries lent, None for enough."""
     p = check_placement(data)
-    n, s, b = p["n"], p["s"], p["b"]
-    if output is not None and output < n - s:
-        raise Refused(11, n - s)
+    most, s, b = p["units"], p["s"], p["b"]
+    if output is not None and output < most - s:
+        raise Refused(11, most - s)
     heads = [(bound, len(rows)) for bound, rows in p["layers"]]
-    return [figure(p["kind"], s, k, b, heads) for k in range(s, n)]
+    return [figure(p["kind"], s, k, b, heads) for k in range(s, most)]
 
 
 # --- planning

@@ -1,4 +1,5 @@
-"""Numbers, refusals, and what packs and placements begin with: document 01, with document 02's requests (b) and (h).
+"""Numbers, refusals, and what packs and placements begin with: document 01, with document 02's requests (b), (h)
+and (n).
 
 Written from the documents alone. Standard library only.
 """
@@ -72,8 +73,8 @@ def read_kind(data, kinds):
 
 # --- what packs and placements begin with
 
-# the kinds that list the nodes out of service after r (document 02 (h))
-LISTED = (4, 5)
+# the kinds that list the nodes out of service after r (document 02 (h), (n))
+LISTED = (4, 5, 6)
 
 
 def read_base(data, kinds):
@@ -93,3 +94,19 @@ def read_base(data, kinds):
 def base_numbers(kind, n, r, dark):
     """What read_base reads."""
     return [kind, n, r, len(dark), *dark] if kind in LISTED else [kind, n, r]
+
+
+# --- what follows a placement's rows
+
+# the kind of placement whose feeders fail, listed after its rows (document 02 (n))
+FED = 6
+
+
+def read_feeders(data, at, n, r, k):
+    """"The number g of feeders (above k, at least r, at most n) and a feeder below g for each node", and the next place."""
+    g, at = read_within(data, at, max(k + 1, r), n)
+    feeders = []
+    for _ in range(n):
+        feeder, at = read_within(data, at, 0, g - 1)
+        feeders.append(feeder)
+    return g, feeders, at

@@ -1,5 +1,6 @@
-"""Document 02, request (l): replaying an outage log, from its words alone. An event is its time, its node and whether it goes down."""
-from document01 import Refused, check_placement, usable
+"""Document 02, request (l): replaying an outage log, from its words alone. An event is its time, its node and whether it goes
+down; in kind 6 (request (n)) a feeder stands for the node."""
+from document01 import Refused, check_placement, unit_rows, usable
 
 
 def check_log(n, log):
@@ -17,8 +18,8 @@ def check_log(n, log):
 def replay(data, log):
     """The lowest number of usable records and the first event after which it stood; for an empty log b alone."""
     p = check_placement(data)
-    check_log(p["n"], log)
-    rows = [row for _, layer in p["layers"] for row in layer]
+    check_log(p["units"], log)
+    rows = unit_rows(p)
     down, counts = set(), []
     for _, node, _ in log:
         down ^= {node}

@@ -1,8 +1,9 @@
-"""Document 02, request (k): cuts and repairs in turn, from its words alone, by a plain search of the game."""
+"""Document 02, request (k): cuts and repairs in turn, from its words alone, by a plain search of the game; with
+feeders for nodes where they fail (document 02, (n))."""
 from functools import lru_cache
 from itertools import combinations
 
-from document01 import Refused, check_placement, usable
+from document01 import Refused, check_placement, unit_rows, usable
 
 
 def play(n, s, rows, q):
@@ -26,7 +27,7 @@ def play(n, s, rows, q):
 
 def rounds(data, q):
     p = check_placement(data)
-    n, s, b = p["n"], p["s"], p["b"]
+    n, s, b = p["units"], p["s"], p["b"]
     if not 1 <= q <= 3 or n > 10 or n < q + 2 or b > 256:
         raise Refused(18, 0)
-    return [play(n, s, [row for _, layer in p["layers"] for row in layer], q)]
+    return [play(n, s, unit_rows(p), q)]

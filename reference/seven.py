@@ -1,4 +1,6 @@
-"""Seven cabinets: document 01's pack and placement, in the kinds of document 02, and the same with two cabinets out of service."""
+"""Seven cabinets: document 01's pack and placement, in the kinds of document 02, the same with two cabinets out of service, and
+on feeders.
+"""
 
 ROWS = bytes(int(d) for row in "012 345 012 034 056 135 146 236 245".split() for d in row)
 P = bytes([1, 7, 3, 1, 2, 1, 7, 1, 0]) + ROWS
@@ -17,3 +19,9 @@ DARK = (3, 8)
 DARK_ROWS = bytes((0, 1, 2, 4, 5, 6, 7)[node] for node in ROWS)
 DARK_P = bytes([4, 9, 3, 2, *DARK, 1, 2, 1, 7, 1, 0]) + DARK_ROWS
 DARK_NINE = bytes([5, 9, 3, 2, *DARK, 2, 3, 9, 5, 1, 2, 1, 7]) + DARK_ROWS
+
+# eleven nodes on eight feeders, in no order, the last feeder without a node; node 7 is out of service. The rows' feeders are those of
+# ROWS, and a feeder's nodes take turns.
+FEEDERS = (4, 0, 6, 2, 0, 5, 3, 1, 2, 3, 1)
+FED_ROWS = bytes([1, 3, 10, 0, 5, 6, 4, 8, 10, 0, 1, 9, 2, 4, 5, 5, 6, 10, 0, 2, 10, 2, 3, 9, 0, 5, 8])
+FED_NINE = bytes([6, 11, 3, 1, 7, 2, 3, 9, 5, 1, 2, 1, 7]) + FED_ROWS + bytes([8, *FEEDERS])

@@ -17,15 +17,16 @@ import chunks  # noqa: E402
 import limits  # noqa: E402
 import document01 as reference  # noqa: E402
 from cabinet_page import page  # noqa: E402
-from cases import check_inputs, of_kind, padded, plan_inputs, random_order, random_pack, random_placement, random_rows, seven_rows, small_placement, two_node_placement  # noqa: E402
+from cases import check_inputs, of_kind, padded, plan_inputs, random_order, random_pack, random_placement, random_rows, seven_rows, small_fed, small_placement, two_node_placement  # noqa: E402
 from check_packings import pack_bytes  # noqa: E402
 from committing import ask, commit, five  # noqa: E402
 from constructions import catalogue  # noqa: E402
 from document01 import ROOM, every_split  # noqa: E402
+from feeders import BARE, FIRST, TAIL, of_feeders, spread  # noqa: E402
 from limits import one_row  # noqa: E402
 from operators import grant, plan_operator  # noqa: E402
 from reading import LARGEST, Refused, base_numbers, in_groups, numbers  # noqa: E402
-from seven import DARK, DARK_NINE, DARK_P, NINE, NINES, P, P_LISTED, SEVEN  # noqa: E402
+from seven import DARK, DARK_NINE, DARK_P, FED_NINE, NINE, NINES, P, P_LISTED, SEVEN  # noqa: E402
 from replay import replay  # noqa: E402
 from rounds import rounds  # noqa: E402
 from script import FILLS, LARGEST_64, Script, answer  # noqa: E402
@@ -55,14 +56,14 @@ def placement_values(placement):
 
 
 def call_checker(script, name, check, values):
-    """Where nodes are out of service, or a row names one, the answer's list is compared too, as a count and so many bytes; it is
-    empty beside a refusal."""
+    """Where nodes are out of service, or a row names one or has two on one feeder, the answer's list is compared too, as a count and
+    so many bytes; it is empty beside a refusal."""
     try:
         file = check(script.input)
         given, dark = [0, *values(file)], file["dark"]
     except Refused as e:
         given, dark = [e.number, e.place], []
-    if dark or given[0] == 15:
+    if dark or given[0] in (15, 21):
         script.call(name, [], given, room=len(dark) + 3, written=bytes([len(dark), *dark]))
     else:
         script.call(name, [], given)
@@ -144,7 +145,8 @@ def call_walk(script, more=0):
     except Refused as e:
         script.call("row_walk", [], [e.number, e.place], room=more)
         return
-    at, r, b, end = reference.check_placement(script.input)["at"], len(rows[0]), len(rows), len(script.input)
+    at, r, b = reference.check_placement(script.input)["at"], len(rows[0]), len(rows)
+    end = at + b * r  # the input's length but in kind 6, where the feeders follow
     script.call("row_walk", [], [0, at, r, b, b, b * r, end, 0, 0, 0, end, 0, at, b], room=b * r + more, written=b"".join(rows))
 
 
@@ -266,7 +268,8 @@ def small_files(script):
     every byte changed to every other value, but for those of which a like one has been, where it is changed to fewer."""
     every, few = range(256), [*range(12), 127, 128, 129, 255]
     for data, head, rows in ((P, every, every), (NINE, every, every), (DARK_P, every, few), (DARK_NINE, every, few), (SEVEN[2], every, few),
-                             (P_LISTED, few, few), (NINES[3], few, few)):
+                             (P_LISTED, few, few), (NINES[3], few, few), (FED_NINE, every, few)):
+        first = FIRST if data is FED_NINE else len(data) - 27
         call, other = call_check_placement, call_check_pack
         if data[0] in reference.PACKS:
             call, other = other, call
@@ -276,7 +279,7 @@ def small_files(script):
             script.part(0, n)
             call(script)
         for at, byte in enumerate(data):
-            for v in rows if at >= len(data) - 27 else head:
+            for v in rows if first <= at < first + 27 else head:
                 if v != byte:
                     script.change(at, v)
                     call(script)
@@ -324,6 +327,12 @@ def curve_vectors(script):
         script.read(head + bytes(v for row in rows for v in row))
         for lent in (n - s - 1, n - s, n - s + 2):
             call_curve(script, lent)
+    # n, g, r, s, k: the curve of kind 6 ends at g-1
+    for n, g, r, s, k in ((255, 255, 5, 5, 254), (255, 254, 5, 5, 5), (255, 6, 5, 5, 5), (255, 128, 2, 1, 127), (7, 2, 2, 1, 1),
+                          (9, 3, 2, 2, 2), (3, 3, 2, 2, 2), (2, 2, 2, 1, 1)):
+        script.read(spread(n, g, r, s, k, 40))
+        for lent in sorted({g - s - 1, g - s, g - s + 2, n - s - 1, n - s}):
+            call_curve(script, lent)
 
 
 def many_sets(data):
@@ -332,7 +341,7 @@ def many_sets(data):
         p = reference.check_placement(data)
     except Refused:
         return False
-    sets = comb(p["n"], p["k"])
+    sets = comb(p["units"], p["k"])
     return sets * p["k"] > 20_000 and sets * p["b"] <= 16_777_216
 
 
@@ -376,6 +385,25 @@ def worst_vectors(script):
             script.read(spread_rows(kind, n, r, s, k, b))
             for room in (k, k + 3, k - 1, 0):
                 call_worst(script, room)
+    worst_feeders(script)
+
+
+def worst_feeders(script):
+    """Kind 6: small placements; the most sets of feeders that are taken and a record or feeder more, on more nodes; k = g-1."""
+    draw = random.Random(72)
+    for i in range(200):
+        data = of_feeders(draw, small_placement(draw, 5))
+        script.read(data)
+        k = reference.check_placement(data)["k"]
+        for room in {k + i % 4, *((k - 1, k, 0) if i % 10 == 0 else ())}:
+            call_worst(script, room)
+    # n, g, r, s, k, b
+    for n, g, r, s, k, b in ((255, 33, 3, 2, 3, 3_075), (255, 33, 3, 2, 3, 3_076), (255, 147, 2, 2, 2, 1_563), (255, 147, 2, 2, 2, 1_564),
+                             (255, 6, 5, 5, 5, 4_096), (20, 6, 5, 3, 5, 40), (30, 14, 3, 2, 7, 90), (40, 40, 5, 3, 39, 100),
+                             (60, 12, 4, 2, 6, 50), (255, 127, 3, 3, 126, 40), (255, 128, 3, 1, 64, 1), (9, 2, 2, 1, 1, 30), (255, 5, 5, 4, 4, 7)):
+        script.read(spread(n, g, r, s, k, b))
+        for room in (k, k + 3, k - 1, 0):
+            call_worst(script, room)
 
 
 def page_edges(script, data):
@@ -396,7 +424,7 @@ def page_vectors(script):
     """Pages of document 01's example, of one record with nodes of one to three digits, of random placements of every r and kind, of a file
     whose records stand in all five layers, and the longest; outputs at their edges, and bad files beside short outputs."""
     draw = random.Random(61)
-    for data in (*NINES.values(), *SEVEN.values(), DARK_NINE):
+    for data in (*NINES.values(), *SEVEN.values(), DARK_NINE, FED_NINE, *(small_fed(draw) for _ in range(20))):
         page_edges(script, data)
     for kind, r in product((2, 3, 5), (2, 3, 4, 5)):
         for first in (0, 7, 98, 250):
@@ -414,7 +442,7 @@ def page_vectors(script):
             page_edges(script, of_kind(kind, data))
     for kind, sizes in product((2, 3, 5), ([2, 3, 1, 2, 3], [0, 0, 1, 0, 9], [5, 0, 0, 0, 0], [1, 0, 1, 0, 1])):
         page_edges(script, limits.placement(kind, 7, sizes))
-    for data in (b"", NINE[:-1], NINE + b"\0", P, bytes([6]) + NINE[1:], NINE[:-1] + bytes([7]), NINE[:-1] + bytes([6])):
+    for data in (b"", NINE[:-1], NINE + b"\0", P, bytes([7]) + NINE[1:], NINE[:-1] + bytes([7]), NINE[:-1] + bytes([6])):
         script.read(data)
         for room in (0, 269, 270, 300):
             call_page(script, room)
@@ -450,10 +478,29 @@ def joined_lists(script):
         join_edges(script, [pair_pack(n, 2, 2, dark=list(range(2, n))) for n in sizes])
     for sizes in ((127, 129), (128, 128), (85, 85, 86)):
         call_join(script, [pair_pack(n, 1, 0, dark=list(range(n))) for n in sizes], OUTPUT_MOST)
+    for files in ([FED_NINE], [b"\6" + P_LISTED[1:]], [P, FED_NINE], [P, b"\6" + DARK_P[1:], P], [P, P, FED_NINE]):
+        call_join(script, files, OUTPUT_MOST)
+
+
+def rounds_of_feeders(script):
+    """Kind 6: random placements, also with more nodes than rounds take and few feeders; both sides of each limit of g and b."""
+    draw = random.Random(54)
+    for i in range(100):
+        script.read(of_feeders(draw, random_placement(draw, 5, 2 + i % 9, draw.choice([1, 5, 30]))))
+        for q in (1, 2, 3):
+            call_rounds(script, q)
+    # n, g, r, s, k, b
+    for n, g, r, s, k, b in ((255, 10, 5, 3, 9, 256), (255, 10, 5, 3, 4, 257), (255, 11, 5, 3, 4, 256), (11, 11, 2, 1, 1, 9), (11, 10, 2, 1, 1, 9),
+                             (20, 7, 3, 2, 3, 40), (30, 8, 5, 5, 5, 60), (12, 5, 3, 2, 4, 17), (12, 4, 3, 2, 3, 17), (12, 3, 3, 2, 2, 17),
+                             (12, 2, 2, 1, 1, 17), (40, 9, 4, 4, 8, 100)):
+        script.read(spread(n, g, r, s, k, b))
+        for q in range(5):
+            call_rounds(script, q)
 
 
 def rounds_vectors(script):
     """Every input of the checker; random placements on few nodes, and the largest; both sides of each limit."""
+    rounds_of_feeders(script)
     for i, data in enumerate(check_inputs()):
         script.read(data)
         call_rounds(script, 1 + i % 3)
@@ -546,6 +593,13 @@ def replay_vectors(script):
     late = random_log(draw, 7, 2_048)
     for bad in bad_events(7, late[:2_047], 2_046):
         call_replay(script, NINE, bad)
+    for log in ([], [(0, 7, True)], [(0, 8, True)], [(0, 10, True)]):
+        call_replay(script, FED_NINE, log)
+    for _ in range(100):
+        data = small_fed(draw)
+        g = reference.check_placement(data)["units"]
+        call_replay(script, data, random_log(draw, g, 20))
+        call_replay(script, data, [(0, g, True)])
 
 
 def join_vectors(script):
@@ -787,6 +841,13 @@ def padded_vectors(script):
             call_check_placement(script)
             call_check_reply(script)
             call_walk(script)
+    for tail in (TAIL, TAIL[:-1], TAIL + [0], [3, *TAIL[1:]], TAIL[:-1] + [8], TAIL[:6] + [0, *TAIL[7:]]):
+        for placement in padded(BARE + bytes(tail), 13):
+            script.read(placement)
+            call_check_placement(script)
+            call_check_reply(script)
+            call_walk(script)
+            call_curve(script, 7)
     for order in (numbers(2, 3, 9), numbers(2, 7, 9), numbers(2, 3, 300)):
         for data in padded(order + P, 12):
             script.read(data)

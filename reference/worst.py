@@ -1,8 +1,9 @@
-"""The true worst case (document 02, (j)): every set of k nodes in dictionary order, counted one by one."""
+"""The true worst case (document 02, (j)): every set of k nodes in dictionary order, counted one by
+one; of k feeders where they fail (document 02, (n))."""
 from itertools import combinations
 from math import comb
 
-from document01 import Refused, check_placement
+from document01 import Refused, check_placement, unit_rows
 
 MOST = 16_777_216
 
@@ -19,12 +20,12 @@ def usable_without(holders, s, b, failed):
 def worst_case(data, output=None):
     """The fewest usable records over all sets of k nodes, and the first set with them. output: the bytes lent, None for enough."""
     p = check_placement(data)
-    n, s, k, b = (p[name] for name in "nskb")
+    n, s, k, b = p["units"], p["s"], p["k"], p["b"]
     if comb(n, k) * b > MOST:
         raise Refused(17, 0)
     if output is not None and output < k:
         raise Refused(11, k)
-    rows = [row for _, layer in p["layers"] for row in layer]
+    rows = unit_rows(p)
     holders = [sum(1 << i for i, row in enumerate(rows) if node in row) for node in range(n)]
     first = min(combinations(range(n), k), key=lambda failed: usable_without(holders, s, b, failed))
     return usable_without(holders, s, b, first), bytes(first)

@@ -1,6 +1,7 @@
 //! Packs and placements: heads, row order and loads, packing, the figure.
 
 use crate::crowding::PackingTest;
+use crate::feeders::Feeders;
 use crate::number::{Reader, Refusal, refused};
 
 /// A layer's bound (mu or lambda) and its number of rows.
@@ -15,7 +16,7 @@ pub struct Base {
     kind: usize,
     pub n: usize,
     pub r: usize,
-    /// The nodes out of service, ascending; kinds 4 and 5 list them.
+    /// The nodes out of service, ascending; kinds 4 to 6 list them.
     pub dark: Vec<u8>,
 }
 
@@ -24,7 +25,7 @@ impl Base {
         let kind = head.kind(kinds)?;
         let n = head.within(2, 255)?;
         let r = head.within(2, n.min(5))?;
-        let count = if kind == 4 || kind == 5 { head.within(0, n)? } else { 0 };
+        let count = if kind >= 4 { head.within(0, n)? } else { 0 };
         let mut dark = Vec::with_capacity(count);
         let mut least = 0;
         for _ in 0..count {
@@ -53,6 +54,8 @@ pub struct Placement {
     pub first: usize,
     pub most: usize,
     pub layers: [Layer; 5],
+    /// What fails in place of nodes, in a placement of kind 6.
+    pub feeders: Option<Feeders>,
 }
 
 impl<'a> Pack<'a> {
@@ -67,8 +70,10 @@ impl<'a> Pack<'a> {
             layer.size = head.within(0, 4096 - size)?;
             size += layer.size;
         }
-        let rows = rows_after(&head, size * r)?;
-        check_rows::<T>(rows, head.at, &base, &layers[..r])?;
+        let first = head.at;
+        let rows = head.part(size * r)?;
+        head.end()?;
+        check_rows::<T>(rows, first, &base, None, &layers[..r])?;
         Ok(Pack { base, layers, rows })
     }
 }
@@ -76,7 +81,7 @@ impl<'a> Pack<'a> {
 impl Placement {
     pub fn check<T: PackingTest>(bytes: &[u8]) -> Result<Self, Refusal> {
         let mut head = Reader::new(bytes);
-        let base = Base::read(&mut head, &[2, 3, 5])?;
+        let base = Base::read(&mut head, &[2, 3, 5, 6])?;
         let lost_by = if base.kind == 2 { one_floor } else { nested_floors };
         let Base { n, r, .. } = base;
         let s = head.within(1, r)?;
@@ -93,12 +98,15 @@ impl Placement {
             left -= layer.size;
             lost += layer.size.min(lost_by(s, k, x, layer.bound));
         }
-        let rows = rows_after(&head, b * r)?;
-        let most = check_rows::<T>(rows, head.at, &base, &layers[..s])?;
+        let first = head.at;
+        let rows = head.part(b * r)?;
+        let feeders = if base.kind == 6 { Some(Feeders::read(&mut head, n, r, k)?) } else { None };
+        head.end()?;
+        let most = check_rows::<T>(rows, first, &base, feeders.as_ref(), &layers[..s])?;
         if figure != b - lost {
             return refused(8, figure_at);
         }
-        Ok(Placement { n, r, s, k, b, figure, first: head.at, most, layers })
+        Ok(Placement { n, r, s, k, b, figure, first, most, layers, feeders })
     }
 }
 
@@ -107,7 +115,7 @@ fn one_floor(s: usize, k: usize, x: usize, lambda: usize) -> usize {
     lambda * choose(k, x + 1) / choose(s, x + 1)
 }
 
-/// The same in a placement of kind 3 or 5. Below 2^64 for lambda up to 2^24 and k up to 255.
+/// The same in a placement of kind 3, 5 or 6. Below 2^64 for lambda up to 2^24 and k up to 255.
 pub fn nested_floors(s: usize, k: usize, x: usize, lambda: usize) -> usize {
     (0..=x).rev().fold(lambda, |lost, i| lost * (k - i) / (s - i))
 }
@@ -117,25 +125,20 @@ fn choose(m: usize, j: usize) -> usize {
     (0..j).fold(1, |c, i| c * (m - i.min(m)) / (i + 1))
 }
 
-fn rows_after<'a>(head: &Reader<'a>, size: usize) -> Result<&'a [u8], Refusal> {
-    let rows = &head.bytes[head.at..];
-    if rows.len() < size {
-        return refused(1, head.bytes.len());
-    }
-    if rows.len() > size {
-        return refused(5, head.at + size);
-    }
-    Ok(rows)
-}
-
-/// Tests the rows' order, that none names a node out of service, and each layer's packing. The largest number of rows that
-/// hold one node.
-fn check_rows<T: PackingTest>(rows: &[u8], at: usize, base: &Base, layers: &[Layer]) -> Result<usize, Refusal> {
+/// Tests the rows' order, that none names a node out of service, and each layer's packing; where there are feeders, that no row
+/// has two nodes on one, and the packing of feeders. The largest number of rows that hold one node.
+fn check_rows<T: PackingTest>(
+    rows: &[u8],
+    at: usize,
+    base: &Base,
+    feeders: Option<&Feeders>,
+    layers: &[Layer],
+) -> Result<usize, Refusal> {
     match base.r {
-        2 => check_rows_of::<T, 2>(rows, at, base, layers),
-        3 => check_rows_of::<T, 3>(rows, at, base, layers),
-        4 => check_rows_of::<T, 4>(rows, at, base, layers),
-        _ => check_rows_of::<T, 5>(rows, at, base, layers),
+        2 => check_rows_of::<T, 2>(rows, at, base, feeders, layers),
+        3 => check_rows_of::<T, 3>(rows, at, base, feeders, layers),
+        4 => check_rows_of::<T, 4>(rows, at, base, feeders, layers),
+        _ => check_rows_of::<T, 5>(rows, at, base, feeders, layers),
     }
 }
 
@@ -143,6 +146,7 @@ fn check_rows_of<T: PackingTest, const R: usize>(
     bytes: &[u8],
     at: usize,
     base: &Base,
+    feeders: Option<&Feeders>,
     layers: &[Layer],
 ) -> Result<usize, Refusal> {
     let n = base.n;
@@ -158,11 +162,29 @@ fn check_rows_of<T: PackingTest, const R: usize>(
     if base.dark.iter().any(|&node| loads[usize::from(node)] > 0) {
         return refused(15, at + first_naming(rows, &base.dark) * R);
     }
-    if crowded_node {
-        return refused(7, at + first_loaded(single, layers[0].bound) * R);
+    let Some(feeders) = feeders else {
+        check_packings::<T, R>(rows, at, n, layers, crowded_node)?;
+        return Ok(most(&loads));
+    };
+    let mapped = feeders.rows(rows).map_err(|i| Refusal { number: 21, place: at + i * R })?;
+    let crowded_feeder = most(&loads_of(&mapped[..single.len()])) > layers[0].bound;
+    check_packings::<T, R>(&mapped, at, feeders.g, layers, crowded_feeder)?;
+    Ok(most(&loads))
+}
+
+/// Each layer's packing, of rows of numbers below n; `crowded` where layer 0 is not one.
+fn check_packings<T: PackingTest, const R: usize>(
+    rows: &[[u8; R]],
+    at: usize,
+    n: usize,
+    layers: &[Layer],
+    crowded: bool,
+) -> Result<(), Refusal> {
+    if crowded {
+        return refused(7, at + first_loaded(&rows[..layers[0].size], layers[0].bound) * R);
     }
     let mut test = None;
-    let mut done = single.len();
+    let mut done = layers[0].size;
     for (x, layer) in layers.iter().enumerate().skip(1) {
         if layer.size > layer.bound {
             let mine = &rows[done..done + layer.size];
@@ -173,11 +195,20 @@ fn check_rows_of<T: PackingTest, const R: usize>(
         }
         done += layer.size;
     }
-    Ok(most(&loads))
+    Ok(())
 }
 
 fn most(loads: &[u16; 256]) -> usize {
     usize::from(loads.iter().copied().max().unwrap_or(0))
+}
+
+/// How many of the rows hold each number.
+fn loads_of<const R: usize>(rows: &[[u8; R]]) -> [u16; 256] {
+    let mut loads = [0; 256];
+    for &node in rows.as_flattened() {
+        loads[usize::from(node)] += 1;
+    }
+    loads
 }
 
 /// Adds each row's nodes to the loads, up to the first row that is not ascending below n: that one's index.
@@ -206,11 +237,8 @@ fn first_naming<const R: usize>(rows: &[[u8; R]], dark: &[u8]) -> usize {
 /// The first row with a node that more than `bound` of these rows hold; there is one.
 #[cold]
 fn first_loaded<const R: usize>(rows: &[[u8; R]], bound: usize) -> usize {
-    let mut loads = [0; 256];
-    for &node in rows.as_flattened() {
-        loads[usize::from(node)] += 1;
-    }
-    rows.iter().position(|row| row.iter().any(|&node| loads[usize::from(node)] > bound)).unwrap_or(0)
+    let loads = loads_of(rows);
+    rows.iter().position(|row| row.iter().any(|&node| usize::from(loads[usize::from(node)]) > bound)).unwrap_or(0)
 }
 
 #[cfg(test)]

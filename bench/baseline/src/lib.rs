@@ -1,6 +1,7 @@
 //! The programs `check` and `plan` of documents 01 and 02 in plain Rust: the mark that the proved programs are measured against.
 
 pub mod crowding;
+pub mod feeders;
 pub mod file;
 pub mod join;
 pub mod number;
@@ -230,6 +231,34 @@ mod tests {
         ] {
             let listed = [&[5, 8, 3], list, &placement[5..]].concat();
             assert_eq!(both_checks(&listed), reply.as_bytes(), "{list:?}");
+        }
+    }
+
+    #[test]
+    fn feeders_in_place_of_nodes() {
+        // Eleven nodes on feeders of which the last has none; node 7 is out of service. The rows' feeders are those of ROWS.
+        let feeders = [4, 0, 6, 2, 0, 5, 3, 1, 2, 3, 1];
+        let rows = [1, 3, 10, 0, 5, 6, 4, 8, 10, 0, 1, 9, 2, 4, 5, 5, 6, 10, 0, 2, 10, 2, 3, 9, 0, 5, 8];
+        let bare = [&[6, 11, 3, 1, 7, 2, 3, 9, 5, 1, 2, 1, 7], &rows[..]].concat();
+        for (g, list, reply) in [
+            (&[8][..], &feeders[..], "accepted 5 9 3 11 4 2\n"),
+            (&[7], &feeders, "accepted 5 9 3 11 4 2\n"),
+            (&[136, 0], &feeders, "accepted 5 9 3 11 4 2\n"),
+            (&[3], &feeders, "refused 4 40\n"),
+            (&[12], &feeders, "refused 4 40\n"),
+            (&[6], &feeders, "refused 4 43\n"),
+            (&[8], &feeders[..10], "refused 1 51\n"),
+            (&[], &[], "refused 1 40\n"),
+            (&[8], &[4, 0, 6, 2, 0, 5, 3, 1, 2, 3, 1, 0], "refused 5 52\n"),
+            // nodes 4 and 8 of the third row; 0 and 9, the first and the last of the fourth
+            (&[8], &[4, 0, 6, 2, 0, 5, 3, 1, 0, 3, 1], "refused 21 19\n"),
+            (&[8], &[3, 0, 6, 2, 0, 5, 4, 1, 2, 3, 1], "refused 21 22\n"),
+            // node 8 on feeder 7, so that no two rows are closer
+            (&[8], &[4, 0, 6, 2, 0, 5, 3, 1, 7, 3, 1], "accepted 5 9 3 11 4 2\n"),
+            // node 9 on feeder 5: the fourth row, 0 1 9, and the fifth, 2 4 5, have feeders 0 and 5
+            (&[8], &[4, 0, 6, 2, 0, 5, 3, 1, 2, 5, 1], "refused 7 22\n"),
+        ] {
+            assert_eq!(both_checks(&[&bare[..], g, list].concat()), reply.as_bytes(), "{g:?} {list:?}");
         }
     }
 

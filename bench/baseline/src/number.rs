@@ -45,6 +45,21 @@ impl<'a> Reader<'a> {
         if value < least || value > most { refused(4, start) } else { Ok(value) }
     }
 
+    /// The next `size` bytes.
+    pub fn part(&mut self, size: usize) -> Result<&'a [u8], Refusal> {
+        let rest = &self.bytes[self.at..];
+        if rest.len() < size {
+            return refused(1, self.bytes.len());
+        }
+        self.at += size;
+        Ok(&rest[..size])
+    }
+
+    /// Refuses bytes that are left.
+    pub fn end(&self) -> Result<(), Refusal> {
+        if self.at < self.bytes.len() { refused(5, self.at) } else { Ok(()) }
+    }
+
     /// The file's kind, which is one of these.
     pub fn kind(&mut self, kinds: &[usize]) -> Result<usize, Refusal> {
         let kind = self.number()?;

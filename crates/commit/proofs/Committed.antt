@@ -104,9 +104,10 @@ module _ (pack : Pack) (good : GoodPack pack) (order : Order) (within : OrderLim
 
   -- "committing any other split gives a placement that the checker accepts"
   pub committed-accepted : checkPlacement (placementBytes placement) ≡ accepted placement
+  unfolding splitPlacement
   committed-accepted =
       placement-accepted-iff (placementBytes placement) placement (written-bytes placement committed-good) .1
-      (written-file placement committed-good, committed-good)
+      (written-file placement committed-good refl, committed-good)
 
   pub committed-bytes : length (placementBytes placement) ≤ outputNeeded (order .b) (pack .r)
   unfolding splitPlacement

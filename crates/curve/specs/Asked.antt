@@ -20,18 +20,18 @@ pub record LayersAsked (s b : ℕ) (layers : List LayerHead) : Type 0 where
   pub fit : sizes (take s layers) ≤ b
   pub bounds : All (λ head. head .bound ≤ 16_777_216) (take s layers)
 
--- the numbers of an accepted placement
-pub record CurveAsked (head : PlacementHead) (layers : List LayerHead) : Type 0 where
+-- the numbers of an accepted placement, in which so many units can fail
+pub record CurveAsked (head : PlacementHead) (units : ℕ) (layers : List LayerHead) : Type 0 where
   pub asked : LayersAsked (head .s) (head .b) layers
-  pub s-nodes : head .s ≤ head .n
-  pub n-most : head .n ≤ 255
+  pub s-units : head .s ≤ units
+  pub units-most : units ≤ 255
 
 -- the figures for s, s + 1, .. failures
 abbrev pub figuresFrom : Rule → (s b : ℕ) (layers : List LayerHead) (entries : ℕ) → List ℕ
 figuresFrom rule s b layers entries = map (λ i. figureOf rule s (s + i) b (take s layers)) (upTo entries)
 
 -- what is left to do once the placement is accepted
-unfoldable pub curveFrom : PlacementHead → List LayerHead → (output : ℕ) → Checked (List ℕ)
-curveFrom head layers output = do
-  _ ← require (leb (head .n - head .s) output) (ShortOutput (head .n - head .s))
-  accepted (figuresFrom (ruleOf (head .kind)) (head .s) (head .b) layers (head .n - head .s))
+unfoldable pub curveFrom : PlacementHead → (units : ℕ) → List LayerHead → (output : ℕ) → Checked (List ℕ)
+curveFrom head units layers output = do
+  _ ← require (leb (units - head .s) output) (ShortOutput (units - head .s))
+  accepted (figuresFrom (ruleOf (head .kind)) (head .s) (head .b) layers (units - head .s))

@@ -8,7 +8,7 @@ use Rattle.refusal.specs.Checked.{Checked, accepted, _>>=_, require}
 use Rattle.placement.specs.Placement.{Placement, checkPlacement}
 use Rattle.placement.specs.Units.{units, figureAt}
 
--- "n - s 16-bit numbers": one for each k' from s to n-1
+-- "n - s 16-bit numbers": one for each k' from s to n-1; (n) "For kind 6 the curve ends at g-1 and has g - s numbers"
 abbrev pub curveLength : Placement → ℕ
 curveLength p = units p - p .s
 

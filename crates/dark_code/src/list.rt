@@ -31,7 +31,10 @@ fn is_listed(kind: usize) -> bool
     if kind == 4 {
         return true;
     }
-    kind == 5
+    if kind == 5 {
+        return true;
+    }
+    kind == 6
 }
 
 // The numbers of `count` nodes from `at` on, strictly ascending and below n, with the place after them, or refusal 1, 2 or 4.

@@ -23,13 +23,16 @@ pub pack-kinds : (kind : ℕ) → T (isKind Pack kind) → (kind ≡ 1) ⊎ (kin
 pack-kinds kind t =
     ⊎-elim (λ one. inl (eqb→eq kind 1 one)) (λ four. inr (eqb→eq kind 4 four)) (or-cases (eqb kind 1) (eqb kind 4) t)
 
--- a placement's is 2, 3 or 5
-pub placement-kinds : (kind : ℕ) → T (isKind Placement kind) → (kind ≡ 2) ⊎ ((kind ≡ 3) ⊎ (kind ≡ 5))
+-- a placement's is 2, 3, 5 or 6
+pub placement-kinds : (kind : ℕ) → T (isKind Placement kind) → (kind ≡ 2) ⊎ ((kind ≡ 3) ⊎ ((kind ≡ 5) ⊎ (kind ≡ 6)))
 placement-kinds kind t =
     ⊎-elim
+    (λ three. ⊎-elim
     (λ old. ⊎-elim (λ two. inl (eqb→eq kind 2 two)) (λ three. inr (inl (eqb→eq kind 3 three))) (or-cases (eqb kind 2) (eqb kind 3) old))
-    (λ five. inr (inr (eqb→eq kind 5 five)))
-    (or-cases (eqb kind 2 || eqb kind 3) (eqb kind 5) t)
+    (λ five. inr (inr (inl (eqb→eq kind 5 five))))
+    (or-cases (eqb kind 2 || eqb kind 3) (eqb kind 5) three))
+    (λ six. inr (inr (inr (eqb→eq kind 6 six))))
+    (or-cases (eqb kind 2 || eqb kind 3 || eqb kind 5) (eqb kind 6) t)
 
 pub kind-refused-iff : (file : FileKind) (s : List ℕ) (e : Refusal) → (readKind file s ≡ refused e) ↔ KindRefused file s e
 unfolding readKind

@@ -122,7 +122,7 @@ record ListPadded (kind : ℕ) (vs s s′ : List ℕ) (d d′ : NodesReading) : 
   size : 0 < length vs → length (listNumbers kind (d .nodes)) ≡ cond (listed kind) (suc (getD vs 0 0)) 0
   after : Padded (drop (length (listNumbers kind (d .nodes))) vs) s s′ (d .next) (d′ .next)
 
-agree-imp : {A B : Type 0} {R Q : A → B → Type 0} {m : Checked A} {m′ : Checked B} → Agree R m m′
+pub agree-imp : {A B : Type 0} {R Q : A → B → Type 0} {m : Checked A} {m′ : Checked B} → Agree R m m′
     → ((a : A) (b : B) → R a b → Q a b) → Agree Q m m′
 agree-imp (both-accepted {a} {b} r) h = both-accepted (h a b r)
 agree-imp (both-refused e) h = both-refused e

@@ -17,7 +17,7 @@ use Rattle.layers.specs.declared.LayerHead.{LayerHead}
 use Rattle.layers.proofs.Padding.{Padded, padded-none}
 
 -- tests that say the same
-leb-same : (a b c d : ℕ) → (a ≤ b → c ≤ d) → (b < a → d < c) → leb a b ≡ leb c d
+pub leb-same : (a b c d : ℕ) → (a ≤ b → c ≤ d) → (b < a → d < c) → leb a b ≡ leb c d
 leb-same a b c d h k = go (leb a b) refl
   where
     go : (t : Bool) → leb a b ≡ t → leb a b ≡ leb c d
@@ -25,7 +25,7 @@ leb-same a b c d h k = go (leb a b) refl
     go false e = e ∙ sym (lt-leb c d (k (leb-false a b e)))
 
 -- the same row found
-ascending-agree : (base : Site) (at at′ : ℕ) (rows : List (List ℕ))
+pub ascending-agree : (base : Site) (at at′ : ℕ) (rows : List (List ℕ))
     → Agree (λ u u′. Unit) (checkAscending base at rows) (checkAscending base at′ rows)
 unfolding checkAscending
 ascending-agree base at at′ rows = go (firstBad (base .n) rows)
@@ -34,7 +34,7 @@ ascending-agree base at at′ rows = go (firstBad (base .n) rows)
     go none = both-accepted tt
     go (some i) = both-refused refl
 
-service-agree : (base : Site) (at at′ : ℕ) (rows : List (List ℕ))
+pub service-agree : (base : Site) (at at′ : ℕ) (rows : List (List ℕ))
     → Agree (λ u u′. Unit) (checkService base at rows) (checkService base at′ rows)
 unfolding checkService
 service-agree base at at′ rows = go (firstNaming (base .dark) rows)
@@ -44,7 +44,7 @@ service-agree base at at′ rows = go (firstNaming (base .dark) rows)
     go none = both-accepted tt
     go (some i) = both-refused refl
 
-packings-agree : (r at at′ : ℕ) (layers : List Layer)
+pub packings-agree : (r at at′ : ℕ) (layers : List Layer)
     → Agree (λ u u′. Unit) (checkPackings r at layers) (checkPackings r at′ layers)
 unfolding checkPackings
 packings-agree r at at′ layers = go (firstCrowdedOf 0 layers)

@@ -37,7 +37,7 @@ service-in-order = (refl, refl, refl)
 abbrev pub listOf : (kind : ℕ) (list : List ℕ) → Checked NodesReading
 listOf kind list = readDark kind 3 (9 ∷ list) 1
 
--- no node, one, all three, padded; a count above n; a number twice, a lower one, n itself; kinds without a list
+-- no node, one, all three, padded; a count above n; a number twice, a lower one, n itself; kind 6 has a list too; kinds without one
 pub lists-read : (listOf 4 (0 ∷ []) ≡ accepted (record { nodes = []; next = 2 }))
     × (listOf 5 (1 ∷ 2 ∷ []) ≡ accepted (record { nodes = 2 ∷ []; next = 3 }))
     × (listOf 4 (131 ∷ 0 ∷ 0 ∷ 129 ∷ 0 ∷ 2 ∷ []) ≡ accepted (record { nodes = 0 ∷ 1 ∷ 2 ∷ []; next = 7 }))
@@ -46,10 +46,11 @@ pub lists-read : (listOf 4 (0 ∷ []) ≡ accepted (record { nodes = []; next = 
     × (listOf 5 (2 ∷ 1 ∷ 0 ∷ []) ≡ refused (OutsideLimits 3))
     × (listOf 5 (1 ∷ 3 ∷ []) ≡ refused (OutsideLimits 2))
     × (listOf 4 (1 ∷ []) ≡ refused (Ended 2))
+    × (listOf 6 (1 ∷ 2 ∷ []) ≡ accepted (record { nodes = 2 ∷ []; next = 3 }))
     × (listOf 1 (4 ∷ []) ≡ accepted (record { nodes = []; next = 1 }))
     × (listOf 3 (4 ∷ []) ≡ accepted (record { nodes = []; next = 1 }))
 unfolding readGroups readNumber readWithin readNodes readList readDark
-lists-read = (refl, refl, refl, refl, refl, refl, refl, refl, refl, refl)
+lists-read = (refl, refl, refl, refl, refl, refl, refl, refl, refl, refl, refl)
 
 -- rows 01 and 02 share node 0, which layer 1 allows and layer 0 does not; the place counts the rows of layer 0
 pub layer-numbers :
@@ -64,7 +65,7 @@ pub layer-numbers :
 unfolding count every any firstWhere member holds together subsets crowded firstCrowded firstCrowdedOf
 layer-numbers = (refl, refl)
 
--- a pack's first number is 1 or 4, a placement's 2, 3 or 5
+-- a pack's first number is 1 or 4, a placement's 2, 3, 5 or 6
 pub kinds : (isKind Pack 1 ≡ true)
     × (isKind Pack 2 ≡ false)
     × (isKind Pack 4 ≡ true)
@@ -74,5 +75,6 @@ pub kinds : (isKind Pack 1 ≡ true)
     × (isKind Placement 3 ≡ true)
     × (isKind Placement 4 ≡ false)
     × (isKind Placement 5 ≡ true)
-    × (isKind Placement 6 ≡ false)
-kinds = (refl, refl, refl, refl, refl, refl, refl, refl, refl, refl)
+    × (isKind Placement 6 ≡ true)
+    × (isKind Placement 7 ≡ false)
+kinds = (refl, refl, refl, refl, refl, refl, refl, refl, refl, refl, refl)

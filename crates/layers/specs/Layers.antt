@@ -57,6 +57,11 @@ abbrev pub File : (head : List ℕ) (layers : List Layer) (after bytes : List �
 File head layers after bytes =
     (h : List ℕ) × (t : List ℕ) × Forms head h × Forms after t × (bytes ≡ h ++ (flatten (allRows layers) ++ t))
 
+-- the same where the head's bytes are the first `first`, so that the first row starts there
+abbrev pub FileAt : (head : List ℕ) (layers : List Layer) (after : List ℕ) (first : ℕ) (bytes : List ℕ) → Type 0
+FileAt head layers after first bytes =
+    (h : List ℕ) × (t : List ℕ) × Forms head h × Forms after t × (bytes ≡ h ++ (flatten (allRows layers) ++ t)) × (length h ≡ first)
+
 -- What a check hands on: what the file says, and the place of its first row.
 pub record Located (A : Type 0) : Type 0 where
   pub content : A
@@ -80,9 +85,10 @@ pub record Site : Type 0 where
   pub r : ℕ
   pub dark : List ℕ
 
--- (h) "Packs of kind 4 and placements of kind 5 have, after r, a count from 0 to n of such nodes and then their numbers"
+-- (h) "Packs of kind 4 and placements of kind 5 have, after r, a count from 0 to n of such nodes and then their numbers"; (n) "A
+-- placement of kind 6 is one of kind 5 with" more after its rows
 abbrev pub listed : (kind : ℕ) → Bool
-listed kind = eqb kind 4 || eqb kind 5
+listed kind = eqb kind 4 || eqb kind 5 || eqb kind 6
 
 unfoldable pub listNumbers : (kind : ℕ) (dark : List ℕ) → List ℕ
 listNumbers kind dark = cond (listed kind) (length dark ∷ dark) []
@@ -123,10 +129,10 @@ pub record LayerHeads : Type 0 where
   pub next : ℕ
 
 -- the first numbers of each file: a pack's is "The number 1" or, by document 02's request (h), 4; a placement's "The number 2"
--- or, by request (d), 3 or, by (h), 5
+-- or, by request (d), 3 or, by (h), 5 or, by (n), 6
 abbrev pub isKind : FileKind → (first : ℕ) → Bool
 isKind Pack first = eqb first 1 || eqb first 4
-isKind Placement first = eqb first 2 || eqb first 3 || eqb first 5
+isKind Placement first = eqb first 2 || eqb first 3 || eqb first 5 || eqb first 6
 
 -- "the first number is not the file's kind": refusal 3
 unfoldable pub readKind : FileKind → List ℕ → Checked Reading
@@ -163,7 +169,7 @@ pub record BaseReading : Type 0 where
   pub base : Site
   pub next : ℕ
 
--- "The number 1; n; r", "The number 2; n; r", and in kinds 4 and 5 the list: what every file begins with
+-- "The number 1; n; r", "The number 2; n; r", and in kinds 4, 5 and 6 the list: what every file begins with
 unfoldable pub readBase : FileKind → List ℕ → Checked BaseReading
 readBase file s = do
   first ← readKind file s

@@ -28,7 +28,7 @@ pub rows-small : {rows r : ℕ} → rows ≤ 4_096 → r ≤ 5 → rows * r ≤ 
 rows-small h k = mul-le-mul h k
 
 -- the rows of all layers are the rows that follow one another in the bytes
-allRows-layersAt : (r : ℕ) (heads : List LayerHead) (s : List ℕ) → allRows (layersAt r heads s)
+pub allRows-layersAt : (r : ℕ) (heads : List LayerHead) (s : List ℕ) → allRows (layersAt r heads s)
     ≡ rowsAt r (sizes heads) s
 unfolding layersAt rowsAt flatten total
 allRows-layersAt r [] s = refl
@@ -36,7 +36,7 @@ allRows-layersAt r (head ∷ heads) s =
     rw (allRows-layersAt r heads (drop (head .size * r) s)) (sym (rowsAt-add r (head .size) (sizes heads) s))
 
 -- what a last check says, with what is handed on after it
-verdict-left : {A : Type 0} (m : Checked Unit) (a : A) → verdict m ≡ verdict (m >>= λ u. accepted a)
+pub verdict-left : {A : Type 0} (m : Checked Unit) (a : A) → verdict m ≡ verdict (m >>= λ u. accepted a)
 verdict-left (accepted u) a = refl
 verdict-left (refused e) a = refl
 

@@ -13,7 +13,7 @@ ghost use Rattle.layers.specs.Layers.{checkAscending};
 ghost use Rattle.layers.specs.Answers.{siteOf};
 
 // Refusal 6 over the rows that start at `at`.
-pub(crate) fn check_ascending(bytes: &[u8], at: usize, base: Base, rows: usize) -> Verdict
+pub fn check_ascending(bytes: &[u8], at: usize, base: Base, rows: usize) -> Verdict
     requires { ⌜ at + rows * base .r ≤ length (now bytes) ⌝ }
     ensures { λ answer. ⌜ answer
         ≡ verdict (checkAscending (siteOf base) at (rowsAt (base .r) rows (drop at (now (bytes .entry))))) ⌝ }

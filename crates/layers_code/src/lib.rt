@@ -5,13 +5,14 @@ mod packings;
 mod place;
 mod service;
 
-use ascending::check_ascending;
+pub use ascending::check_ascending;
 use layers::Base;
 use layers::LayerHead;
-use packings::check_packings;
+pub use packings::check_packings;
+pub use place::row_start;
 use refusal::Refusal;
 use refusal::Verdict;
-use service::check_service;
+pub use service::check_service;
 ghost use mathlib.Core.Path.{_≡_};
 ghost use Prim.Native.Nat.{_≤_};
 ghost use lib.ListN.{length, take};
@@ -20,7 +21,7 @@ ghost use Rattle.layers.specs.Layers.{sizes, checkRows};
 ghost use Rattle.layers.specs.Answers.{siteOf, DarkFits};
 
 // How many rows the first layers have.
-fn count_rows(layers: usize, heads: [LayerHead; 5]) -> usize
+pub fn count_rows(layers: usize, heads: [LayerHead; 5]) -> usize
     requires { ⌜ (layers ≤ 5) × (sizes (take layers heads) ≤ 4096) ⌝ }
     ensures { λ r. ⌜ r ≡ sizes (take layers heads) ⌝ }
 {

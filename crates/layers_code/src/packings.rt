@@ -12,7 +12,7 @@ ghost use Rattle.layers.specs.Asked.{PackingsAsked};
 
 // Refusal 7 over the layers whose rows start at `at` and are in order: the packing test gets, layer by layer, the part of
 // the bytes that begins at the layer's first row.
-pub(crate) fn check_packings(
+pub fn check_packings(
     bytes: &[u8],
     at: usize,
     r: usize,

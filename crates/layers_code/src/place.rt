@@ -4,7 +4,7 @@ ghost use mathlib.Core.Path.{_≡_};
 ghost use Prim.Native.Nat.{_+_, _*_, _<_, _^_};
 
 // The start of a record's row, where the first row is at `at` and each has r bytes.
-pub(crate) fn row_start(at: usize, r: usize, row: Record) -> usize
+pub fn row_start(at: usize, r: usize, row: Record) -> usize
     requires { ⌜ at + row .0 * r < 2 ^ 64 ⌝ }
     ensures { λ start. ⌜ start ≡ at + row .0 * r ⌝ }
 {

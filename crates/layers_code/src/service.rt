@@ -13,7 +13,7 @@ ghost use Rattle.layers.specs.Layers.{checkService};
 ghost use Rattle.layers.specs.Answers.{siteOf, DarkFits};
 
 // Refusal 15 over the rows that start at `at`.
-pub(crate) fn check_service(bytes: &[u8], at: usize, base: Base, rows: usize) -> Verdict
+pub fn check_service(bytes: &[u8], at: usize, base: Base, rows: usize) -> Verdict
     requires { ⌜ at + rows * base .r ≤ length (now bytes) ⌝ }
     requires { ⌜ DarkFits (base .dark) ⌝ }
     ensures { λ answer. ⌜ answer

@@ -36,7 +36,10 @@ fn is_kind(file: FileKind, first: usize) -> bool
     if first == 3 {
         return true;
     }
-    first == 5
+    if first == 5 {
+        return true;
+    }
+    first == 6
 }
 
 // The file's first number with the place after it, or refusal 1, 2 or 3.

@@ -1,7 +1,6 @@
 -- The page from the answer of the placement's check: its length, its lines, and what is left in the lent slice. Assumes nothing.
 use Prim.Native.Nat.{ℕ, _+_, _*_, _-_, _≤_, _<_}
 use native.Mathlib.Omega.{arith}
-use native.Mathlib.Nat.{le-of-eq}
 use mathlib.Core.Path.{_≡_, refl, sym, _∙_, ap, subst}
 use mathlib.Core.List.{List, [], _++_, append-assoc}
 use lib.ListN.{length, take, drop, getD, length-map, length-append, length-take, length-replicate}
@@ -190,7 +189,7 @@ module _ (bytes : List ℕ) (file : Located Placement) (e : readPlacement bytes 
         figure-most = figure-most (file .content) good;
         five = length-five (headsOf (file .content .layers));
         nodes = λ i lt. subst Fit (record-same i lt) (row-fits (file .content) good i lt);
-        rows = le-of-eq (stands .ends);
+        rows = stands .ends;
       }
 
   same-page : (output : ℕ)

@@ -13,14 +13,14 @@ use Rattle.refusal.specs.declared.Refusal.the-variants.{WrongFigure}
 use Rattle.refusal.specs.Checked.{require}
 use Rattle.refusal.specs.Agree.{Agree, both-accepted, both-refused}
 use Rattle.refusal.proofs.Agree.{agree-bind}
-use Rattle.layers.specs.Layers.{Layer, Site, headsOf, listNumbers, listSize, readLayers}
+use Rattle.layers.specs.Layers.{Site, headsOf, listNumbers, listSize, readLayers}
 use Rattle.layers.specs.declared.FileKind.the-variants.{Placement as PlacementKind}
 use Rattle.layers.specs.declared.LayerHead.{LayerHead}
 use Rattle.layers.proofs.Padding.{Padded, HeadsPadded, readWithin-padded, readBase-padded, readLayers-padded}
-use Rattle.layers.proofs.RowsPadding.{checkRows-padded}
+use Rattle.placement.proofs.RecordsPadding.{checkRecords-padded}
 use Rattle.placement.specs.Figure.{ruleOf, figureOf}
 use Rattle.placement.specs.declared.Terms.{Terms}
-use Rattle.placement.specs.Placement.{TermsReading, placementLayerLimits, placementOf, readTerms, checkFigure, readPlacement}
+use Rattle.placement.specs.Placement.{TermsReading, Rows, placementLayerLimits, placementOf, readTerms, checkRecords, checkFigure, readPlacement}
 
 -- the same s, k, b and F; only F's place may differ
 record SameTerms (t t′ : Terms) : Type 0 where
@@ -96,8 +96,15 @@ module _ (kind : ℕ) {terms terms′ : Terms} (same : SameTerms terms terms′)
       go true = both-accepted tt
       go false = both-refused refl
 
-  same-placement : (base : Site) (layers : List Layer) → placementOf kind base terms layers ≡ placementOf kind base terms′ layers
-  same-placement base layers = rw (same .s-same, same .k-same, same .b-same, same .figure-same)
+  same-placement : (base : Site) (rows : Rows) → placementOf kind base terms rows ≡ placementOf kind base terms′ rows
+  same-placement base rows = rw (same .s-same, same .k-same, same .b-same, same .figure-same)
+
+-- the rows, with the same k
+records-agree : (kind : ℕ) (base : Site) (heads : List LayerHead) (s s′ : List ℕ) (at at′ : ℕ) {terms terms′ : Terms} → SameTerms terms terms′
+    → Padded [] s s′ at at′
+    → Agree (λ rows rows′. rows ≡ rows′) (checkRecords kind base (terms .k) heads s at) (checkRecords kind base (terms′ .k) heads s′ at′)
+records-agree kind base heads s s′ at at′ {terms} {terms′} same p =
+    rw (same .k-same) (checkRecords-padded s s′ kind base (terms′ .k) heads at at′ p)
 
 -- The head has 7 + 2s numbers, and those of the list: where the first of them are the same, and the same bytes follow them, so is the answer.
 pub readPlacement-padded : (vs bytes bytes′ : List ℕ) → length vs ≤ 7 + listSize vs + 2 * getD vs (3 + listSize vs) 0 → Padded vs bytes bytes′ 0 0
@@ -121,9 +128,9 @@ readPlacement-padded vs bytes bytes′ most p =
     agree-bind _ _ layers-agree λ numbers numbers′ r₃.
     rw
     (r₃ .heads)
-    (agree-bind _ _ (checkRows-padded bytes bytes′ (head′ .base) (numbers′ .heads) (numbers .next) (numbers′ .next) (r₃ .after))
-    λ layers layers′ same.
+    (agree-bind _ _ (records-agree (head′ .kind) (head′ .base) (numbers′ .heads) bytes bytes′ (numbers .next) (numbers′ .next) (r₂ .same) (r₃ .after))
+    λ rows rows′ same.
     rw
     same
-    (agree-bind _ _ (figure-agree (head′ .kind) (r₂ .same) (headsOf layers′)) λ u u′ t.
-    both-accepted (same-placement (head′ .kind) (r₂ .same) (head′ .base) layers′))))
+    (agree-bind _ _ (figure-agree (head′ .kind) (r₂ .same) (headsOf (rows′ .layers))) λ u u′ t.
+    both-accepted (same-placement (head′ .kind) (r₂ .same) (head′ .base) rows′))))

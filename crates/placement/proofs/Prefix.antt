@@ -5,19 +5,23 @@ use native.Mathlib.Nat.{mul-le-mul}
 use mathlib.Core.Path.{_≡_, refl, ap}
 use mathlib.Core.List.{List}
 use lib.ListN.{length, take}
+use lib.Seq.{length-take-le}
+use borrow.Author.Tests.{le-leb, lt-leb}
 use Rattle.refusal.specs.Checked.{mapAccepted}
 use Rattle.refusal.proofs.Checked.{bind-congr}
 use Rattle.lists.proofs.Prefixes.{take-elim}
 use Rattle.layers.specs.declared.FileKind.the-variants.{Placement as PlacementKind}
-use Rattle.layers.specs.Layers.{Site}
+use Rattle.layers.specs.Layers.{Site, sizes, checkLength, checkEnd}
+use Rattle.layers.specs.declared.LayerHead.{LayerHead}
 use Rattle.layers.proofs.NumbersRead.{reads-next}
 use Rattle.layers.proofs.Heads.{held-of-readBase}
-use Rattle.layers.proofs.Prefix.{readBase-next, readWithin-next, readBase-take, readWithin-take, readLayers-take, layers-take}
-use Rattle.placement.specs.Placement.{placementLayerLimits, readTerms, readPlacement, checkPlacement}
+use Rattle.layers.proofs.Prefix.{readBase-next, readWithin-next, readBase-take, readWithin-take, readLayers-take, rows-end}
+use Rattle.placement.specs.Placement.{placementLayerLimits, readTerms, checkRecords, readPlacement, checkPlacement}
+use Rattle.placement.proofs.FeederNumbers.{readFeeders-next, readFeeders-take}
 use Rattle.placement.proofs.Accepted.{termNumbers, reads-of-readTerms}
 
--- 7 numbers, 256 of the list and 2 for each of 5 layers, of 4 bytes each, and 4,096 rows of 5 bytes. Four is the most that any form
--- of a number has, so numbers that are padded (request (b)) are within it too.
+-- 7 numbers, 256 of the list and 2 for each of 5 layers, of 4 bytes each, and 4,096 rows of 5 bytes; (n) after them 256 numbers more.
+-- Four is the most that any form of a number has, so numbers that are padded (request (b)) are within it too.
 reach : (at s b r : ℕ) → at ≤ 1_052 → s ≤ r → r ≤ 5 → b ≤ 4_096 → at + s * 8 + b * r ≤ 21_572
 reach at s b r h₁ h₂ h₃ h₄ = let rows = mul-le-mul h₄ h₃ in omega arith
 
@@ -36,7 +40,20 @@ readTerms-take m bytes long base at h =
     bind-congr _ _ _ _ (readWithin-take m bytes long 0 (b .value) (b .next) (omega arith)) λ figure e₄.
     refl
 
-within-reach : (m : ℕ) (bytes : List ℕ) → 21_572 < m → m ≤ length bytes
+-- Rows and feeders that end before m: the bytes from there to m are trailing, and so are all.
+checkRecords-take : (m : ℕ) (s : List ℕ) → m ≤ length s → (kind : ℕ) (base : Site) (k : ℕ) (heads : List LayerHead) (at : ℕ)
+    → base .n ≤ 255 → at + sizes heads * base .r + 1_024 < m
+    → checkRecords kind base k heads (take m s) at ≡ checkRecords kind base k heads s at
+unfolding checkRecords checkLength checkEnd
+checkRecords-take m s long kind base k heads at few h =
+    let end = at + sizes heads * base .r in
+    rw
+    (length-take-le m s long, le-leb end m (omega arith), le-leb end (length s) (omega arith))
+    (bind-congr _ _ _ _ (readFeeders-take m s long kind (base .n) (base .r) k end few (omega arith)) λ after e.
+    let next = readFeeders-next kind (base .n) (base .r) k (take m s) end few e in
+    rw (lt-leb m (after .next) (omega arith), lt-leb (length s) (after .next) (omega arith)) refl)
+
+within-reach : (m : ℕ) (bytes : List ℕ) → 22_596 < m → m ≤ length bytes
     → readPlacement (take m bytes) ≡ readPlacement bytes
 unfolding readPlacement
 within-reach m bytes h long =
@@ -49,19 +66,20 @@ within-reach m bytes h long =
     let at₂ = reads-next (termNumbers (order .terms)) t (head .next) (order .next) reads in
     let end = reach (order .next) (order .terms .s) (order .terms .b) (head .base .r) (omega arith) (limits .s-most) (base .r-most) (limits .b-most) in
     bind-congr _ _ _ _ (readLayers-take m bytes long placementLayerLimits (order .terms .s) (order .terms .b) (order .next) (omega arith)) λ numbers e₃.
+    let rows = rows-end placementLayerLimits (order .terms .s) (order .terms .b) (head .base .r) t (order .next) e₃ in
     bind-congr _ _ _ _
-    (layers-take placementLayerLimits (head .base) (order .terms .s) (order .terms .b) bytes (order .next) m long e₃ (omega arith))
-    λ layers e₄.
+    (checkRecords-take m bytes long (head .kind) (head .base) (order .terms .k) (numbers .heads) (numbers .next) (base .n-most) (omega arith))
+    λ rows e₄.
     refl
 
 -- No byte after the first m is looked at.
-pub readPlacement-take : (m : ℕ) (bytes : List ℕ) → 21_572 < m → readPlacement (take m bytes) ≡ readPlacement bytes
+pub readPlacement-take : (m : ℕ) (bytes : List ℕ) → 22_596 < m → readPlacement (take m bytes) ≡ readPlacement bytes
 readPlacement-take m bytes h = take-elim readPlacement m bytes (within-reach m bytes h)
 
-pub checkPlacement-take : (m : ℕ) (bytes : List ℕ) → 21_572 < m → checkPlacement (take m bytes) ≡ checkPlacement bytes
+pub checkPlacement-take : (m : ℕ) (bytes : List ℕ) → 22_596 < m → checkPlacement (take m bytes) ≡ checkPlacement bytes
 unfolding checkPlacement
 checkPlacement-take m bytes h = ap (mapAccepted (λ file. file .content)) (readPlacement-take m bytes h)
 
--- A program reads 32,768 bytes: the rest of its input changes nothing, also where every number of the head is padded.
+-- A program reads 32,768 bytes: the rest of its input changes nothing, also where every number is padded.
 pub checkPlacement-buffer : (bytes : List ℕ) → checkPlacement (take 32_768 bytes) ≡ checkPlacement bytes
 checkPlacement-buffer bytes = checkPlacement-take 32_768 bytes (omega arith)

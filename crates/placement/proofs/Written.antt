@@ -1,9 +1,10 @@
--- A good placement's bytes are its file, and at most 448 of them stand before the rows. Assumes nothing.
+-- A good placement's bytes are its file where it has no feeders, and at most 448 of them stand before the rows. Assumes nothing.
 use Prim.Native.Nat.{_+_, _*_, _≤_, _<_}
 use native.Mathlib.Omega.{arith}
 use mathlib.Core.Path.{_≡_, refl, sym, _∙_, ap}
 use mathlib.Core.Logic.{⊎-elim}
 use mathlib.Core.List.{[], _∷_, _++_, flatten, append-nil}
+use mathlib.Core.Option.{none}
 use lib.ListN.{length, length-append}
 use Rattle.lists.specs.Lists.{All}
 use Rattle.lists.proofs.Alls.{all-append, all-imp, all-flatten, length-flatten}
@@ -29,7 +30,8 @@ module _ (p : Placement) (good : GoodPlacement p) where
 
   kind-small : p .kind < 128
   kind-small =
-      ⊎-elim (λ two. omega arith) (⊎-elim (λ three. omega arith) (λ five. omega arith)) (placement-kinds (p .kind) (good .limits .kind))
+      ⊎-elim (λ two. omega arith) (⊎-elim (λ three. omega arith) (⊎-elim (λ five. omega arith) (λ six. omega arith)))
+      (placement-kinds (p .kind) (good .limits .kind))
 
   numbers-most : All (λ v. v ≤ largestNumber) (placementNumbers p)
   numbers-most =
@@ -50,14 +52,14 @@ module _ (p : Placement) (good : GoodPlacement p) where
         ),
       )
 
-  -- what is written is the placement's file
-  pub written-file : PlacementFile p (placementBytes p)
+  -- what is written of one without feeders is the placement's file
+  pub written-file : p .feeders ≡ none → PlacementFile p (placementBytes p)
   unfolding placementBytes
-  written-file = (
+  written-file unfed = (
     formsOf (placementNumbers p),
     [],
     forms-of (placementNumbers p) numbers-most,
-    refl,
+    rw unfed refl,
     ap (λ l. formsOf (placementNumbers p) ++ l) (sym (append-nil (flatten (allRows (p .layers))))),
   )
 

@@ -1,6 +1,7 @@
 -- Document 01, "Seven cabinets": the placement of order s = 2, k = 3, b = 9. Assumes nothing.
 use Prim.Native.Nat.{ℕ}
 use mathlib.Core.List.{List, [], _∷_, _++_, flatten}
+use mathlib.Core.Option.{none}
 use Rattle.packing.specs.SevenCabinets.{rows0, rows1, row245}
 use Rattle.placement.specs.Placement.{Placement}
 
@@ -13,6 +14,11 @@ placementFile kind figure =
 unfoldable pub listedFile : (list : List ℕ) (figure : ℕ) → List ℕ
 listedFile list figure =
     (5 ∷ 7 ∷ 3 ∷ []) ++ list ++ (2 ∷ 3 ∷ 9 ∷ figure ∷ 1 ∷ 2 ∷ 1 ∷ 7 ∷ []) ++ flatten rows0 ++ flatten (rows1 row245)
+
+-- request (n): the same of kind 6 with no node listed, and these numbers after the rows
+unfoldable pub fedFile : (figure : ℕ) (after : List ℕ) → List ℕ
+fedFile figure after =
+    (6 ∷ 7 ∷ 3 ∷ 0 ∷ 2 ∷ 3 ∷ 9 ∷ figure ∷ 1 ∷ 2 ∷ 1 ∷ 7 ∷ []) ++ flatten rows0 ++ flatten (rows1 row245) ++ after
 
 -- seven records on P's layer 1, with s 3 and k 4
 unfoldable pub sevenRecords : (kind figure : ℕ) → List ℕ
@@ -32,4 +38,5 @@ sevenPlacement kind =
       b = 9;
       figure = 5;
       layers = record { bound = 1; rows = rows0 } ∷ record { bound = 1; rows = rows1 row245 } ∷ [];
+      feeders = none;
     }

@@ -45,16 +45,37 @@ pub struct PlacementHead {
     pub first: usize,
 }
 
+// The feeders of a placement of kind 6: their number g, and the feeder of each node; entries past the nodes are 0, and all are 0
+// in a placement without feeders.
+pub struct FeederTable {
+    pub number: usize,
+    pub each: [u8; 255],
+}
+
+// What reading them gives, with the next place; all numbers are 0 beside a refusal.
+pub struct FeedersRead {
+    pub verdict: Verdict,
+    pub table: FeederTable,
+    pub next: usize,
+}
+
 // What checking a placement gives: its numbers, or the refusal.
 pub enum PlacementAnswer {
     Accepted(PlacementHead),
     Refused(Refusal),
 }
 
-// The answer, with lambda and c of each layer below s, and the nodes out of service; entries from s on are 0. Beside a refusal
-// all are 0, and the list is empty.
+// What checking the rows gives: good, with the feeders, or the refusal with none.
+pub struct RecordsCheck {
+    pub verdict: Verdict,
+    pub table: FeederTable,
+}
+
+// The answer, with lambda and c of each layer below s, the nodes out of service, and the feeders; entries from s on are 0. Beside a
+// refusal all are 0, and there is no node in the list and no feeder.
 pub struct PlacementCheck {
     pub answer: PlacementAnswer,
     pub layers: [LayerHead; 5],
     pub dark: Dark,
+    pub feeders: FeederTable,
 }

@@ -1,7 +1,7 @@
 -- The cases of checking a placement, step by step, and what the steps ask of each other. Assumes nothing.
 use Prim.Native.Nat.{ℕ, _≤_}
 use native.Mathlib.Omega.{arith}
-use mathlib.Core.Path.{_≡_, refl, _∙_}
+use mathlib.Core.Path.{_≡_, refl, _∙_, ap}
 use mathlib.Core.Bool.{true}
 use mathlib.Core.List.{List}
 use lib.ListN.{length, take}
@@ -10,23 +10,39 @@ use Rattle.lists.specs.Lists.{All}
 use Rattle.lists.proofs.Alls.{all-imp}
 use Rattle.refusal.specs.declared.Refusal.{Refusal}
 use Rattle.refusal.specs.declared.Refusal.the-variants.{WrongFigure}
-use Rattle.refusal.specs.Checked.{accepted, refused}
-use Rattle.layers.specs.Layers.{Layer, BaseReading, BaseLimits, sizes, headsOf, readBase, readLayers, checkRows}
+use Rattle.refusal.specs.declared.Verdict.the-variants.{Good, Refused as NotGood}
+use Rattle.refusal.specs.Checked.{Checked, accepted, refused}
+use Rattle.layers.specs.Layers.{BaseReading, BaseLimits, sizes, headsOf, headNumbers, readBase, readLayers}
 use Rattle.layers.specs.declared.FileKind.the-variants.{Placement as PlacementKind}
-use Rattle.layers.specs.Answers.{darkOf}
+use Rattle.layers.specs.Answers.{darkOf, siteOf, DarkFits}
+use Rattle.layers.specs.declared.Base.{Base}
 use Rattle.layers.specs.declared.Dark.{Dark}
 use Rattle.layers.specs.declared.LayerHead.{LayerHead}
 use Rattle.layers.specs.declared.LayersRead.{LayersRead}
-use Rattle.layers.proofs.NumbersRead.{reads-le-length}
-use Rattle.layers.proofs.Heads.{fit-le, held-of-readBase, readBase-inside}
-use Rattle.layers.proofs.RowsChecked.{taken-of-checkRows, taken-heads}
+use Rattle.layers.proofs.NumbersRead.{reads-le-length, reads-next}
+use Rattle.layers.proofs.Heads.{fit-le, held-of-readBase, readBase-inside, reads-of-readLayers}
+use Rattle.layers.proofs.Prefix.{readBase-next, headNumbers-two}
+use Rattle.placement.proofs.Records.{taken-of-checkRecords, taken-heads}
 use Rattle.layers.proofs.Answered.{LayersGood}
 use Rattle.placement.specs.Figure.{ruleOf, figureOf}
-use Rattle.placement.specs.Placement.{OrderLimits, TermsReading, placementLayerLimits, placementOf, readTerms, checkFigure, readPlacement}
-use Rattle.placement.specs.Answers.{placementChecked, placementHead}
+use Rattle.placement.specs.Placement.{OrderLimits, TermsReading, Rows, placementLayerLimits, placementOf, readTerms, checkRecords, checkFigure, readPlacement}
+use Rattle.placement.specs.Answers.{tableOf, recordsCheck, placementChecked, placementHead}
+use Rattle.placement.specs.Asked.{RecordsAsked}
+use Rattle.placement.specs.declared.FeederTable.{FeederTable}
+use Rattle.placement.specs.declared.RecordsCheck.{RecordsCheck}
 use Rattle.placement.specs.declared.PlacementCheck.{PlacementCheck}
 use Rattle.placement.specs.declared.PlacementAnswer.the-variants.{Accepted}
 use Rattle.placement.proofs.Accepted.{termNumbers, orderOf, reads-of-readTerms}
+
+-- what checking the rows gave
+pub records-refused : (m : Checked Rows) {check : RecordsCheck} {e : Refusal} → check ≡ recordsCheck m → check .verdict ≡ NotGood e → m ≡ refused e
+records-refused (accepted rows) is why = let v = ap (λ c. c .verdict) is in cc
+records-refused (refused e) is why = let v = ap (λ c. c .verdict) is in cc
+
+pub records-good : (m : Checked Rows) {check : RecordsCheck} → check ≡ recordsCheck m → check .verdict ≡ Good
+    → (rows : Rows) × (m ≡ accepted rows) × (check .table ≡ tableOf (rows .feeders))
+records-good (accepted rows) is good = (rows, refl, ap (λ c. c .table) is)
+records-good (refused e) is good = absurd (let v = ap (λ c. c .verdict) is in let z : _≡_ {A = ℕ} 0 1 = cc in omega arith)
 
 -- what is known of n, r, s, k and b that were read
 pub order-limits : (s : List ℕ) {head : BaseReading} {order : TermsReading} → readBase PlacementKind s ≡ accepted head
@@ -64,13 +80,39 @@ module _ (s : List ℕ) where
         unfolding heads
         sum-le = fit-le true (order .terms .s) (order .terms .b) (sizes heads) (l .within .fit)
 
-        -- what checking the rows asks
-        pub placement-rows-asked : ((order .terms .s ≤ head .base .r) × (head .base .r ≤ 5) × (numbers .next ≤ length s))
-            × (sizes (take (order .terms .s) (numbers .heads)) ≤ 4_096)
+        -- the rows start after at most 259 + 4 + 10 numbers of four bytes
+        start-most : numbers .next ≤ 1_092
         unfolding heads
-        placement-rows-asked =
+        start-most =
             let (base, limits, inside) = order-limits s b o in
-            ((limits .s-most, base .r-most, l .inside inside), omega (arith, sum-le, limits .b-most))
+            let at₁ = readBase-next PlacementKind s b in
+            let at₂ = reads-next (termNumbers (order .terms)) s (head .next) (order .next) (reads-of-readTerms (head .base) s (head .next) o (base .n-least) .0) in
+            let (reads, within) = reads-of-readLayers placementLayerLimits (order .terms .s) (order .terms .b) s (order .next) (l .accepts) in
+            let at₃ = reads-next (headNumbers heads) s (order .next) (numbers .next) reads in
+            omega (arith, headNumbers-two heads, within .layer-each, limits .s-most, base .r-most)
+
+        -- what checking the rows asks
+        pub placement-rows-asked : {coded : Base} → siteOf coded ≡ head .base → DarkFits (coded .dark)
+            → RecordsAsked coded (order .terms) (numbers .heads) s (numbers .next)
+        unfolding heads
+        placement-rows-asked {coded} is dark =
+            let (base, limits, inside) = order-limits s b o in
+            let n-is : coded .n ≡ head .base .n = ap (λ site. site .n) is in
+            let r-is : coded .r ≡ head .base .r = ap (λ site. site .r) is in
+            record {
+              rows =
+                  record {
+                    few = omega (arith, limits .s-most);
+                    r-most = omega (arith, base .r-most);
+                    rows-most = omega (arith, sum-le, limits .b-most);
+                    start-most = start-most;
+                  };
+              inside = l .inside inside;
+              dark = dark;
+              k-most = omega (arith, limits .k-most);
+              r-nodes = omega (arith, base .r-nodes);
+              n-most = omega (arith, base .n-most);
+            }
 
         -- what the figure asks
         pub figure-asked : ((order .terms .s ≤ 5) × (order .terms .s ≤ order .terms .k) × (order .terms .k ≤ 255)
@@ -83,20 +125,22 @@ module _ (s : List ℕ) where
               all-imp _ (λ head. head .bound ≤ 16_777_216) (λ head h. h .1) heads (l .within .bounds),
             )
 
-        pub placement-no-rows : {e : Refusal} → checkRows (head .base) (take (order .terms .s) (numbers .heads)) s (numbers .next) ≡ refused e
+        pub placement-no-rows : {e : Refusal} → checkRecords (head .kind) (head .base) (order .terms .k) (take (order .terms .s) (numbers .heads)) s (numbers .next) ≡ refused e
             → placementChecked (refused e) ≡ placementChecked (readPlacement s)
         unfolding readPlacement
         placement-no-rows h = rw (b, o, l .accepts, h)
 
-        module _ {layers : List Layer}
-            (r : checkRows (head .base) (take (order .terms .s) (numbers .heads)) s (numbers .next) ≡ accepted layers) {figure : ℕ}
+        module _ {rows : Rows}
+            (r : checkRecords (head .kind) (head .base) (order .terms .k) (take (order .terms .s) (numbers .heads)) s (numbers .next) ≡ accepted rows) {figure : ℕ}
             (is : figure ≡ figureOf (ruleOf (head .kind)) (order .terms .s) (order .terms .k) (order .terms .b) (take (order .terms .s) (numbers .heads))) where
-          same-heads : headsOf layers ≡ heads
+          same-heads : headsOf (rows .layers) ≡ heads
           unfolding heads
-          same-heads = taken-heads (head .base) heads s (numbers .next) (taken-of-checkRows (head .base) heads s (numbers .next) r)
+          same-heads =
+              taken-heads (head .kind) (head .base) (order .terms .k) heads s (numbers .next)
+              (taken-of-checkRecords (head .kind) (head .base) (order .terms .k) heads s (numbers .next) r)
 
           -- the code's figure is that of the file's layers
-          formula : figure ≡ figureOf (ruleOf (head .kind)) (order .terms .s) (order .terms .k) (order .terms .b) (headsOf layers)
+          formula : figure ≡ figureOf (ruleOf (head .kind)) (order .terms .s) (order .terms .k) (order .terms .b) (headsOf (rows .layers))
           unfolding heads
           formula = is ∙ rw same-heads refl
 
@@ -106,14 +150,15 @@ module _ (s : List ℕ) where
           wrong-figure h = rw (b, o, l .accepts, r, ← formula, ne-eqb (order .terms .figure) figure h)
 
           pub right-figure : order .terms .figure ≡ figure
-              → {dark : Dark} → dark ≡ darkOf (head .base .dark)
+              → {dark : Dark} → dark ≡ darkOf (head .base .dark) → {table : FeederTable} → table ≡ tableOf (rows .feeders)
               → _≡_ {A = PlacementCheck}
               (record {
-                answer = Accepted (placementHead (record { content = placementOf (head .kind) (head .base) (order .terms) layers; first = numbers .next }));
+                answer = Accepted (placementHead (record { content = placementOf (head .kind) (head .base) (order .terms) rows; first = numbers .next }));
                 layers = numbers .heads;
                 dark = dark;
+                feeders = table;
               })
               (placementChecked (readPlacement s))
           unfolding heads readPlacement checkFigure
-          right-figure h array =
-              rw (b, o, l .accepts, r, ← formula, eq-eqb (order .terms .figure) figure h, same-heads, ← l .array, array)
+          right-figure h array entries =
+              rw (b, o, l .accepts, r, ← formula, eq-eqb (order .terms .figure) figure h, same-heads, ← l .array, array, entries) refl

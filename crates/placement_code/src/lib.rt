@@ -5,6 +5,7 @@ use layers::Dark;
 use layers::FileKind;
 use layers::LayerHead;
 use layers::LayerLimits;
+use placement::FeederTable;
 use placement::Order;
 use placement::PlacementAnswer;
 use placement::PlacementCheck;
@@ -27,14 +28,20 @@ fn refuse(e: Refusal) -> PlacementCheck
             count: 0,
             nodes: [0; 255],
         },
+        feeders: FeederTable {
+            number: 0,
+            each: [0; 255],
+        },
     }
 }
 
-// Checks a placement: its kind, n, r and the nodes out of service, then s, k, b and F, the layers' numbers, the rows, and the figure by the kind's rule.
+// Checks a placement: its kind, n, r and the nodes out of service, then s, k, b and F, the layers' numbers, the rows, in kind 6 the
+// feeders after them, and the figure by the kind's rule.
 //
-// Accepted exactly where the bytes are the file of a placement with document 01's limits, rows in order that name no node out of
-// service, the packing of every layer and the formula's figure: `placement-accepted-iff` in `placement`. The figure of an accepted placement holds
-// whichever k of its n nodes fail: `survivors` in `placement`.
+// Accepted exactly where the bytes are the file of a placement with the documents' limits, rows in order that name no node out of
+// service and have no two nodes on one feeder, the packing of every layer and the formula's figure: `placement-accepted-iff` in
+// `placement`. The figure of an accepted placement holds whichever k of its n nodes fail, `survivors`, and in kind 6 whichever k of its
+// feeders, `survivors-at-most`.
 pub fn check_placement(bytes: &[u8]) -> PlacementCheck
     ensures { λ check. ⌜ check ≡ placementChecked (readPlacement (now (bytes .entry))) ⌝ }
 {
@@ -65,7 +72,8 @@ pub fn check_placement(bytes: &[u8]) -> PlacementCheck
     }
     let layers = numbers.heads;
     let first = numbers.next;
-    let rows_verdict = layers_code::check_rows(bytes, first, base, s, layers);
+    let records = records_code::check_records(bytes, first, kind, base, t, layers);
+    let rows_verdict = records.verdict;
     if let Verdict::Refused(e) = rows_verdict {
         return refuse(e);
     }
@@ -75,6 +83,7 @@ pub fn check_placement(bytes: &[u8]) -> PlacementCheck
         return refuse(Refusal::WrongFigure(t.place));
     }
     let dark = base.dark;
+    let feeders = records.table;
     PlacementCheck {
         answer: PlacementAnswer::Accepted(PlacementHead {
             kind,
@@ -88,5 +97,6 @@ pub fn check_placement(bytes: &[u8]) -> PlacementCheck
         }),
         layers,
         dark,
+        feeders,
     }
 }

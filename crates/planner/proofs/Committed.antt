@@ -3,7 +3,7 @@
 use Prim.Native.Nat.{ℕ, zero, suc, _+_, _*_, _-_, _≤_, _<_}
 use native.Mathlib.Omega.{arith}
 use native.Mathlib.Nat.{le-refl, le-trans, mul-le-mul-right}
-use mathlib.Core.Path.{_≡_, sym, _∙_, ap, subst}
+use mathlib.Core.Path.{_≡_, refl, sym, _∙_, ap, subst}
 use mathlib.Core.List.{List, _++_, map-map, flatten}
 use lib.ListN.{length, getD, take, drop, length-append, length-drop}
 use lib.Seq.{getD-take}
@@ -192,8 +192,9 @@ module _ {base : Base} {layers : List LayerHead} {blocks : List ℕ} {order : Or
 
   -- what writing the head asks
   pub head-limits : (base .dark .count ≤ 255) × ((order .s ≤ 5) × (All (λ v. v ≤ largestNumber) numbers × (length (formsOf numbers) ≤ length out₀)))
+  unfolding splitPlacement
   head-limits =
-      let file = written-file (placement w) (committed-good w) in
+      let file = written-file (placement w) (committed-good w) refl in
       let most = forms-most (placementNumbers (placement w)) (file .0) (file .2) in
       let limits = w .held .good .limits in (
         omega (arith, w .held .counted, dark-count (base .n) (pack w .dark) (limits .dark-order), limits .base .n-most),

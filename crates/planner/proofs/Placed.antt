@@ -1,9 +1,10 @@
 -- The placement of a split of an accepted pack is one that document 01 accepts. Assumes nothing.
 use Prim.Native.Nat.{ℕ, _+_, _*_, _≤_, _<_}
 use native.Mathlib.Omega.{arith}
-use mathlib.Core.Path.{_≡_, sym, _∙_, ap, subst}
+use mathlib.Core.Path.{_≡_, refl, sym, _∙_, ap, subst}
 use mathlib.Core.Bool.{true≢false}
 use mathlib.Core.List.{List, [], map, map-map}
+use mathlib.Core.Option.{none}
 use lib.ListN.{length}
 use Rattle.lists.specs.Lists.{All, upTo}
 use Rattle.lists.proofs.Alls.{all-map, all-flatten}
@@ -49,6 +50,7 @@ module _ (pack : Pack) (s k b : ℕ) (split : ℕ → Share) where
           layer-each = length-map-upTo placedAt s;
           lambda-most = all-map _ placedAt (upTo s) (all-upTo _ s (λ x lt. rw (headOf-blocksAt (pack .layers) x) at (lambdas x lt)));
           records-all = rw heads-placed (is .sum);
+          feeders = refl;
         }
 
     -- what holds of every block holds of every row
@@ -84,6 +86,7 @@ module _ (pack : Pack) (s k b : ℕ) (split : ℕ → Share) where
           limits = placed-limits;
           rows = rows-of (Row (pack .n) (pack .r)) (good .rows);
           in-service = rows-of (λ row. Names (pack .dark) row → ⊥) (good .in-service);
+          apart = tt;
           packings = placed-packings;
           formula = ap (figureOf NestedFloors s k b) (sym heads-placed);
         }
@@ -95,4 +98,4 @@ unfolding splitPlacement
 splitPlacement-congr pack s k b a c h =
     let figure = ap (figureOf NestedFloors s k b) (splitHeads-congr (headsOf (pack .layers)) s a c h) in
     let layers = map-upTo-congr _ _ s (λ x l. ap (placed (blocksAt (pack .layers) x)) (h x l)) in
-    λ i. record { kind = 5; n = pack .n; r = pack .r; dark = pack .dark; s = s; k = k; b = b; figure = figure i; layers = layers i }
+    λ i. record { kind = 5; n = pack .n; r = pack .r; dark = pack .dark; s = s; k = k; b = b; figure = figure i; layers = layers i; feeders = none }

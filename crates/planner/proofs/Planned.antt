@@ -113,9 +113,10 @@ module _ (bytes : List ℕ) (pack : Pack) (is-pack : checkPack bytes ≡ accepte
 
   -- "and the checker accepts it"
   pub plan-accepted : checkPlacement (placementBytes placement) ≡ accepted placement
+  unfolding namedPlacement splitPlacement
   plan-accepted =
       placement-accepted-iff (placementBytes placement) placement (written-bytes placement plan-good) .1
-      (written-file placement plan-good, plan-good)
+      (written-file placement plan-good refl, plan-good)
 
   -- it fits the output
   pub plan-fits : length (placementBytes placement) ≤ outputNeeded (order .b) (pack .r)

@@ -3,6 +3,7 @@ use Prim.Native.Nat.{ℕ, suc, _+_, _*_, _≤_}
 use mathlib.Core.Path.{_≡_}
 use mathlib.Core.Bool.{_&&_}
 use mathlib.Core.List.{List, map}
+use mathlib.Core.Option.{none}
 use lib.ListN.{length, drop}
 use lib.Dec.{T, leb, ltb}
 use Rattle.lists.specs.Lists.{upTo}
@@ -36,6 +37,7 @@ splitPlacement pack s k b split =
       b = b;
       figure = splitFigure NestedFloors (headsOf (pack .layers)) s k b split;
       layers = map (λ x. placed (blocksAt (pack .layers) x) (split x)) (upTo s);
+      feeders = none;
     }
 
 -- demand 2: "the one placement that 01 names"; request (d): it "is judged best by this figure", that of the nested floors

@@ -14,14 +14,13 @@ use Rattle.packing.specs.Rows.{member, recordsIn}
 use Rattle.packing.specs.Failures.{Failure, FailedNodes, usable}
 use Rattle.packing.proofs.Failed.{failure-of-nodes}
 use Rattle.layers.specs.Layers.{Layer, Located, Stands, headsOf}
-use Rattle.layers.proofs.Files.{file-read, read-file}
 use Rattle.pack.specs.Pack.{Pack, PackFile, GoodPack, readPack}
 use Rattle.pack.specs.Answers.{packChecked, packOutcome, packValues}
 use Rattle.pack.proofs.Accepted.{read-of-pack, pack-accepted, pack-read, read-pack, pack-told}
-use Rattle.placement.specs.Placement.{Placement, PlacementFile, GoodPlacement, placementNumbers, placementBytes, readPlacement}
+use Rattle.placement.specs.Placement.{Placement, PlacementFileAt, GoodPlacement, placementBytes, readPlacement}
 use Rattle.placement.specs.declared.Rule.the-variants.{NestedFloors}
 use Rattle.placement.specs.Answers.{placementChecked, placementOutcome, placementValues}
-use Rattle.placement.proofs.Accepted.{read-of-placement, placement-accepted}
+use Rattle.placement.proofs.Accepted.{placement-located-iff}
 use Rattle.placement.proofs.Answered.{placement-told}
 use Rattle.placement.proofs.Survivors.{survivors}
 use Rattle.split.specs.Splits.{Share, Named}
@@ -71,38 +70,28 @@ demand-2-pack bytes values h = (λ e. to (readPack bytes) refl e, from)
         pack-accepted bytes p first f good ∙ (λ i. accepted (record { content = p; first = place i })) in
         rw (read, same) (pack-told bytes file read)
 
--- The same of a placement, "and a placement's figure is the one 01's formula gives", in kinds 3 and 5 that of request (d): the last field of
--- `GoodPlacement`. The answer has the placement's kind, n, r, s, k, b and F, the place where its rows stand, lambda and c of each
--- layer, and the list.
+-- The same of a placement, "and a placement's figure is the one 01's formula gives", in kinds 3, 5 and 6 that of request (d): the last
+-- field of `GoodPlacement`. `PlacementFileAt` is the layout, with the place where the rows stand; of kind 6 too: (n) "after its rows,
+-- the number g of feeders .. and a feeder below g for each node". The answer has the placement's kind, n, r, s, k, b and F, that place,
+-- lambda and c of each layer, the list, and in kind 6 g and the feeders.
 pub demand-2-placement : (bytes values : List ℕ) → Bytes bytes
     → (placementOutcome (placementChecked (readPlacement bytes)) ≡ result values)
-    ↔ ((file : Located Placement) × (values ≡ placementValues file) × PlacementFile (file .content) bytes
-    × Stands bytes (file .first) (file .content .layers)
-    × GoodPlacement (file .content))
+    ↔ ((file : Located Placement) × (values ≡ placementValues file) × PlacementFileAt file bytes × GoodPlacement (file .content))
 demand-2-placement bytes values h = (λ e. to (readPlacement bytes) refl e, from)
   where
     to : (c : Checked (Located Placement)) → readPlacement bytes ≡ c → placementOutcome (placementChecked c) ≡ result values
-        → (file : Located Placement) × (values ≡ placementValues file) × PlacementFile (file .content) bytes
-        × Stands bytes (file .first) (file .content .layers)
-        × GoodPlacement (file .content)
+        → (file : Located Placement) × (values ≡ placementValues file) × PlacementFileAt file bytes × GoodPlacement (file .content)
     to (accepted file) r e =
-        let p = file .content in
-        let (f, good) = read-of-placement bytes p (file .first) r in
         let told = placement-told bytes file r in
         let same : placementValues file ≡ values = cc in
-        (file, sym same, read-file (placementNumbers p) (p .layers) bytes (file .first) h f, (f .inside, f .rest), good)
+        let (is-file, good) = placement-located-iff bytes file h .0 r in
+        (file, sym same, is-file, good)
     to (refused why) r e = absurd (not-both e)
 
-    from : ((file : Located Placement) × (values ≡ placementValues file) × PlacementFile (file .content) bytes
-        × Stands bytes (file .first) (file .content .layers)
-        × GoodPlacement (file .content))
+    from : ((file : Located Placement) × (values ≡ placementValues file) × PlacementFileAt file bytes × GoodPlacement (file .content))
         → placementOutcome (placementChecked (readPlacement bytes)) ≡ result values
-    from (file, same, is-file, stands, good) =
-        let p = file .content in
-        let (first, f) = file-read (placementNumbers p) (p .layers) bytes is-file in
-        let place = one-place bytes first (file .first) (p .layers) (f .inside, f .rest) stands in
-        let read : readPlacement bytes ≡ accepted file =
-        placement-accepted bytes p first f good ∙ (λ i. accepted (record { content = p; first = place i })) in
+    from (file, same, is-file, good) =
+        let read : readPlacement bytes ≡ accepted file = placement-located-iff bytes file h .1 (is-file, good) in
         rw (read, same) (placement-told bytes file read)
 
 -- "the planner writes the one placement that 01 names", by the figure of the nested floors: two splits that are named are one, and so are their placements and
@@ -119,7 +108,7 @@ demand-2-one-named pack s k b split other a c =
 
 -- Demand 3: "The survivor figure F of every accepted placement holds whichever k of its n nodes fail: at least F of its b
 -- records have fewer than s replicas among the failed." Which nodes fail is a test that just k of the n nodes pass; record j is
--- the r bytes at the first row's place plus j × r.
+-- the r bytes at the first row's place plus j × r. It holds for nodes in kind 6 too; that kind's promise for feeders is `n-survivors`.
 pub demand-3-survivors : (bytes : List ℕ) {kind n r s k b figure first : ℕ} {layers : List ℕ}
     → placementOutcome (placementChecked (readPlacement bytes)) ≡ result (kind ∷ n ∷ r ∷ s ∷ k ∷ b ∷ figure ∷ first ∷ layers)
     → (failed : ℕ → Bool) → Failure n k failed

@@ -1,4 +1,5 @@
 pub mod Says
+pub mod Fails
 pub mod Demands
 pub mod Planned
 pub mod Programs
@@ -15,6 +16,11 @@ pub mod RequestJ
 pub mod RequestK
 pub mod RequestL
 pub mod RequestM
+pub mod RequestN
+pub mod RequestNCalls
+pub mod RequestNFiles
+pub mod FeedersPadded
+pub mod RequestNWorked
 pub mod Starred
 pub mod RequestE
 pub mod RequestHPlans

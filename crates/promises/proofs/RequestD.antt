@@ -29,18 +29,18 @@ use Rattle.placement.proofs.Losses.{nested-le-one, figure-one-le-nested}
 use Rattle.placement.proofs.Worked.{same-rows}
 use Rattle.promises.proofs.Demands.{demand-3-whichever}
 
--- "the survivor guarantee has to hold for both": an accepted placement is of kind 2 or 3 or, by request (h), 5 and, whichever k of
--- its n nodes fail, at least F of its b records stay usable
+-- "the survivor guarantee has to hold for both": an accepted placement is of kind 2 or 3 or, by request (h), 5 or, by (n), 6 and,
+-- whichever k of its n nodes fail, at least F of its b records stay usable
 pub d-both-kinds-hold : (bytes : List ℕ) {kind n r s k b figure first : ℕ} {layers : List ℕ}
     → placementOutcome (placementChecked (readPlacement bytes)) ≡ result (kind ∷ n ∷ r ∷ s ∷ k ∷ b ∷ figure ∷ first ∷ layers)
-    → ((kind ≡ 2) ⊎ ((kind ≡ 3) ⊎ (kind ≡ 5)))
+    → ((kind ≡ 2) ⊎ ((kind ≡ 3) ⊎ ((kind ≡ 5) ⊎ (kind ≡ 6))))
     × ((failed : List ℕ) → FailedNodes n k failed → figure ≤ usable s (recordsIn bytes first r b) (λ v. member v failed))
 d-both-kinds-hold bytes {kind} {n} {r} {s} {k} {b} {figure} {first} {layers} e =
     (go (readPlacement bytes) refl e, demand-3-whichever bytes e)
   where
     go : (c : Checked (Located Placement)) → readPlacement bytes ≡ c
         → placementOutcome (placementChecked c) ≡ result (kind ∷ n ∷ r ∷ s ∷ k ∷ b ∷ figure ∷ first ∷ layers)
-        → (kind ≡ 2) ⊎ ((kind ≡ 3) ⊎ (kind ≡ 5))
+        → (kind ≡ 2) ⊎ ((kind ≡ 3) ⊎ ((kind ≡ 5) ⊎ (kind ≡ 6)))
     go (accepted file) q says =
         let p = file .content in
         let good = read-of-placement bytes p (file .first) q .1 in
@@ -86,9 +86,10 @@ d-example-above = same-rows
 pub d-other-kind-refused : (bytes : List ℕ) (first : Reading) → readNumber bytes 0 ≡ accepted first → (first .value ≡ 2 → ⊥)
     → (first .value ≡ 3 → ⊥)
     → (first .value ≡ 5 → ⊥)
+    → (first .value ≡ 6 → ⊥)
     → placementOutcome (placementChecked (readPlacement bytes)) ≡ refusal 3 0
 unfolding readPlacement readBase
-d-other-kind-refused bytes first read not-two not-three not-five =
+d-other-kind-refused bytes first read not-two not-three not-five not-six =
     let refuses : readKind PlacementKind bytes ≡ refused WrongKind =
     kind-refused-iff PlacementKind bytes WrongKind .1 (inr (refl, (first, read, neither))) in
     rw refuses
@@ -96,7 +97,8 @@ d-other-kind-refused bytes first read not-two not-three not-five =
     neither : T (isKind PlacementKind (first .value)) → ⊥
     neither t = go (placement-kinds (first .value) t)
       where
-        go : (first .value ≡ 2) ⊎ ((first .value ≡ 3) ⊎ (first .value ≡ 5)) → ⊥
+        go : (first .value ≡ 2) ⊎ ((first .value ≡ 3) ⊎ ((first .value ≡ 5) ⊎ (first .value ≡ 6))) → ⊥
         go (inl two) = not-two two
         go (inr (inl three)) = not-three three
-        go (inr (inr five)) = not-five five
+        go (inr (inr (inl five))) = not-five five
+        go (inr (inr (inr six))) = not-six six

@@ -6,12 +6,12 @@ use native.Mathlib.Omega.{arith}
 use mathlib.Core.Path.{_≡_, refl, sym, _∙_, ap}
 use mathlib.Core.Logic.{_↔_, _⊎_, inl, inr}
 use mathlib.Core.Bool.{false}
-use mathlib.Core.List.{List, [], _∷_, _++_, flatten}
+use mathlib.Core.List.{List, [], _∷_, _++_, flatten, append-nil}
 use lib.ListN.{length, take, drop, replicate, length-append}
 use lib.Seq.{length-take-le, drop-at}
-use lib.Dec.{T}
+use lib.Dec.{T, lit≤}
 use Rattle.lists.specs.Lists.{All}
-use Rattle.refusal.specs.Refusals.{result, refusal}
+use Rattle.refusal.specs.Refusals.{numberOf, result, refusal}
 use Rattle.refusal.specs.Checked.{Checked, accepted, refused}
 use Rattle.refusal.specs.declared.Refusal.the-variants.{WrongKind, OutOfService}
 use Rattle.number.specs.Numbers.{groups, numberBytes, readNumber}
@@ -22,7 +22,7 @@ use Rattle.layers.specs.Layers.{Located, BaseReading, LayerHeads, InService, al
 use Rattle.layers.specs.Answers.{fiveHeads, noHead}
 use Rattle.layers.specs.declared.FileKind.the-variants.{Pack as PackKind, Placement as PlacementKind}
 use Rattle.layers.specs.declared.LayerHead.{LayerHead}
-use Rattle.layers.specs.Meaning.{FirstAt, DarkAt, standing, rowsEnd, RowsRefused}
+use Rattle.layers.specs.Meaning.{FirstAt, DarkAt, standing, rowsEnd}
 use Rattle.layers.proofs.KindMeaning.{pack-kinds, kind-refused-iff}
 use Rattle.layers.proofs.Listing.{dark-count}
 use Rattle.layers.proofs.Prefix.{headNumbers-two}
@@ -31,19 +31,20 @@ use Rattle.pack.specs.Answers.{packChecked, packOutcome}
 use Rattle.pack.proofs.Accepted.{read-of-pack, pack-told}
 use Rattle.pack.proofs.Meaning.{pack-refused-iff}
 use Rattle.placement.specs.declared.Rule.the-variants.{NestedFloors}
-use Rattle.placement.specs.Figure.{ruleOf, figureOf}
+use Rattle.placement.specs.Figure.{figureOf}
 use Rattle.placement.specs.Placement.{Placement, GoodPlacement, TermsReading, placementLayerLimits, placementBytes, readTerms, readPlacement, checkPlacement}
-use Rattle.placement.specs.Meaning.{PlacementRefused}
+use Rattle.placement.specs.Feeders.{feederNumbers}
 use Rattle.placement.specs.Answers.{placementChecked, placementOutcome}
 use Rattle.placement.proofs.Answered.{placement-told}
-use Rattle.placement.proofs.Meaning.{placement-refused-iff}
 use Rattle.planner.specs.declared.PlanResult.{PlanResult}
 use Rattle.promises.proofs.Says.{not-both, says}
+use Rattle.promises.proofs.Fails.{unfed}
+use Rattle.promises.proofs.Refusals.{AfterFeeders, refused-after-feeders}
 use Rattle.promises.proofs.Demands.{demand-3-whichever}
 use Rattle.promises.proofs.Planned.{Kept}
 
 -- the ten numbers of five layers, and what comes after them
-layer-numbers : (heads : List LayerHead) → length (headNumbers (fiveHeads heads)) ≡ 10
+pub layer-numbers : (heads : List LayerHead) → length (headNumbers (fiveHeads heads)) ≡ 10
 layer-numbers heads =
     let five = length-take-le 5 (heads ++ replicate 5 noHead) (omega (arith, length-append heads (replicate 5 noHead))) in
     omega (arith, headNumbers-two (fiveHeads heads))
@@ -85,23 +86,28 @@ h-pack-list bytes numbers list {n} {r} {first} {count} e ten = go (readPack byte
         )
     go (refused why) q p = absurd (not-both p)
 
--- The same of every accepted placement: no record in the bytes names a node of the list, and "Kinds 1 to 3 count as having an
--- empty list".
+-- The same of every accepted placement of kinds 2, 3 and 5: no record in the bytes names a node of the list, and "Kinds 1 to 3 count
+-- as having an empty list". In kind 6 the feeders come after the list: `n-answer`.
 pub h-placement-list : (bytes numbers list : List ℕ) {kind n r s k b figure first count : ℕ}
     → placementOutcome (placementChecked (readPlacement bytes))
     ≡ result (kind ∷ n ∷ r ∷ s ∷ k ∷ b ∷ figure ∷ first ∷ (numbers ++ (count ∷ list)))
     → length numbers ≡ 10
+    → (kind ≡ 6 → ⊥)
     → (count ≡ length list) × (count ≤ n) × T (inOrder n list) × InService list (recordsIn bytes first r b)
     × ((kind ≡ 2) ⊎ (kind ≡ 3) → list ≡ [])
-h-placement-list bytes numbers list {kind} {n} {r} {s} {k} {b} {figure} {first} {count} e ten =
+h-placement-list bytes numbers list {kind} {n} {r} {s} {k} {b} {figure} {first} {count} e ten other =
     let y = says bytes e in
     let p = y .file .content in
     let told = placement-told bytes (y .file) (y .reads) in
     let values : placementOutcome (placementChecked (accepted (y .file)))
     ≡ result (kind ∷ n ∷ r ∷ s ∷ k ∷ b ∷ figure ∷ first ∷ (numbers ++ (count ∷ list))) =
     ap (λ c. placementOutcome (placementChecked c)) (sym (y .reads)) ∙ e in
-    let layers : headNumbers (fiveHeads (headsOf (p .layers))) ++ (length (p .dark) ∷ p .dark) ≡ numbers ++ (count ∷ list) = cc in
-    let kind-is : p .kind ≡ kind = cc in
+    let whole : headNumbers (fiveHeads (headsOf (p .layers))) ++ ((length (p .dark) ∷ p .dark) ++ feederNumbers (p .feeders)) ≡ numbers ++ (count ∷ list) = cc in
+    let none-after : (length (p .dark) ∷ p .dark) ++ feederNumbers (p .feeders) ≡ length (p .dark) ∷ p .dark =
+    rw (unfed y other) (append-nil (length (p .dark) ∷ p .dark)) in
+    let layers : headNumbers (fiveHeads (headsOf (p .layers))) ++ (length (p .dark) ∷ p .dark) ≡ numbers ++ (count ∷ list) =
+    ap (λ l. headNumbers (fiveHeads (headsOf (p .layers))) ++ l) (sym none-after) ∙ whole in
+    let kind-is = y .kind-is in
     let tail : _≡_ {A = List ℕ} (length (p .dark) ∷ p .dark) (count ∷ list) =
     after-layers (headsOf (p .layers)) numbers (length (p .dark) ∷ p .dark) (count ∷ list) layers ten in
     let count-is : length (p .dark) ≡ count = cc in
@@ -142,22 +148,16 @@ pub h-refusal-15 : (s : List ℕ) {head : BaseReading} {numbers : LayerHeads} �
     × (place ≡ numbers .next + i * head .base .r)))
 h-refusal-15 s b l place = pack-refused-iff s b l (OutOfService place)
 
--- The same of a placement.
+-- The same of a placement. The rows' end is where the numbers after them are read; in kinds 2, 3 and 5 there are none, and `after` is
+-- the rows' end (`readFeeders`).
 pub h-refusal-15-placement : (s : List ℕ) {head : BaseReading} {order : TermsReading} {numbers : LayerHeads}
     → readBase PlacementKind s ≡ accepted head
     → readTerms (head .base) s (head .next) ≡ accepted order
     → readLayers placementLayerLimits (order .terms .s) (order .terms .b) s (order .next) ≡ accepted numbers
     → (place : ℕ)
     → (checkPlacement s ≡ refused (OutOfService place))
-    ↔ RowsRefused (head .base) (numbers .heads) s (numbers .next) (OutOfService place)
-h-refusal-15-placement s {head} {order} {numbers} b o l place =
-    let meaning = placement-refused-iff s b o l (OutOfService place) in
-    (λ p. to (meaning .0 p), λ h. meaning .1 (inl h))
-  where
-    to : PlacementRefused (ruleOf (head .kind)) (head .base) (order .terms) (numbers .heads) s (numbers .next) (OutOfService place)
-        → RowsRefused (head .base) (numbers .heads) s (numbers .next) (OutOfService place)
-    to (inl h) = h
-    to (inr (is, good, differs)) = absurd (let z : _≡_ {A = ℕ} 0 1 = cc in omega arith)
+    ↔ AfterFeeders (head .kind) (head .base) (numbers .heads) s (numbers .next) (order .terms .k) (OutOfService place)
+h-refusal-15-placement s b o l place = refused-after-feeders s b o l (OutOfService place) (lit≤ tt) (λ e. let eight : 15 ≡ 8 = ap numberOf e in omega arith)
 
 -- "Kinds 1 to 3 count as having an empty list": an accepted pack whose first number is 1 has none
 pub h-kind-1-empty : (bytes : List ℕ) (file : Located Pack) → readPack bytes ≡ accepted file → (first : Reading)

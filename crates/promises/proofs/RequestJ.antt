@@ -1,12 +1,13 @@
 -- Document 02, (j): "The true worst case for small estates", as theorems over the call's own contract: `WorstDone` of `checkWorst`
--- is what `worst_code::worst_case` ensures of its answer and of the slice that it was lent. Placements of every kind are meant
--- alike: nothing below asks for one. Assumes nothing.
+-- is what `worst_code::worst_case` ensures of its answer and of the slice that it was lent. `j-worst`, `j-too-many` and
+-- `j-short-output` are for placements of kinds 2, 3 and 5, whose nodes fail; those of kind 6, whose feeders fail, are in `RequestN`.
+-- Assumes nothing.
 use Prim.Native.Nat.{ℕ, _*_, _≤_, _<_}
 use native.Mathlib.Omega.{arith}
 use native.Mathlib.Nat.{le-of-eq}
 use mathlib.Core.Path.{_≡_, refl, sym, _∙_, ap, subst}
 use mathlib.Core.Bool.{Bool}
-use mathlib.Core.List.{List, [], _∷_, _++_}
+use mathlib.Core.List.{List, [], _∷_}
 use lib.ListN.{length, take, drop, length-append, length-drop}
 use lib.Seq.{take-at, drop-at}
 use lib.Dec.{T, leb, ltb, ltb→lt}
@@ -22,17 +23,21 @@ use Rattle.binomial.specs.Choose.{choose}
 use Rattle.packing.specs.Rows.{ascending, Row, member, recordsIn}
 use Rattle.packing.specs.Failures.{Failure, FailedNodes, usable}
 use Rattle.packing.proofs.Failed.{failure-of-nodes}
-use Rattle.layers.specs.Layers.{Located, allRows}
+use Rattle.layers.specs.Layers.{Located, sizes}
+use Rattle.placement.specs.Feeders.{unitLayers}
 use Rattle.layers.proofs.Lengths.{length-allRows}
 use Rattle.placement.specs.Placement.{Placement, GoodPlacement, readPlacement, checkPlacement}
 use Rattle.placement.specs.Units.{units, unitRows}
 use Rattle.placement.specs.Answers.{placementChecked, placementOutcome}
-use Rattle.placement.proofs.Units.{figureAt-holds, figureAt-planned}
+use Rattle.placement.proofs.Units.{unit-rows-are, figureAt-holds, figureAt-planned}
+use Rattle.placement.proofs.TableRows.{units-within}
+use Rattle.placement.proofs.FeederRows.{unit-heads}
 use Rattle.worst.specs.Worst.{Worst, fewSets, worstOf, checkWorst, Before}
 use Rattle.worst.specs.Answers.{worstAnswer, worstOutcome, WorstDone}
 use Rattle.worst.specs.declared.WorstCase.{WorstCase}
 use Rattle.worst.proofs.Exact.{TrueWorst, worst-exact}
-use Rattle.promises.proofs.Says.{not-both, says}
+use Rattle.promises.proofs.Says.{not-both}
+use Rattle.promises.proofs.Fails.{Fails, nodes-fail}
 use Rattle.promises.proofs.Requests.{SameContent, SameAnswer, results, refusals}
 
 -- the answer is a result with one value, the number, or a refusal with its place
@@ -40,22 +45,23 @@ pub j-answer : (c : Checked Worst) → worstOutcome (worstAnswer c) ≡ outcome 
 j-answer (accepted worst) = refl
 j-answer (refused e) = refl
 
--- What is promised of a call on an accepted placement that was lent `out`, left `out-left` in it and answered `given`.
-pub record WorstKept (n r s k b figure first : ℕ) (bytes out out-left : List ℕ) (given : WorstCase) : Type 0 where
+-- What is promised of a call on an accepted placement of which m can fail, n nodes or (n) g feeders, and whose b records are `rows` as
+-- lists of these. It was lent `out`, left `out-left` in it and answered `given`.
+pub record WorstKept (m : ℕ) (rows : List (List ℕ)) (s k figure : ℕ) (out out-left : List ℕ) (given : WorstCase) : Type 0 where
   -- "the exact number of definition 1 in the paper": it is answered
   pub number : ℕ
   pub answered : worstOutcome given ≡ result (number ∷ [])
   -- "The number equals the minimum over all sets": no k nodes leave fewer of the b records usable, as a list of different nodes
   -- or as a test
-  pub least : (failed : List ℕ) → FailedNodes n k failed → number ≤ usable s (recordsIn bytes first r b) (λ v. member v failed)
-  pub whichever : (failed : ℕ → Bool) → Failure n k failed → number ≤ usable s (recordsIn bytes first r b) failed
+  pub least : (failed : List ℕ) → FailedNodes m k failed → number ≤ usable s rows (λ v. member v failed)
+  pub whichever : (failed : ℕ → Bool) → Failure m k failed → number ≤ usable s rows failed
   -- and "the set is written as k bytes": k different nodes, ascending, that leave just so many
-  pub set : FailedNodes n k (take k out-left)
+  pub set : FailedNodes m k (take k out-left)
   pub ascends : T (ascending 0 (take k out-left))
-  pub reached : usable s (recordsIn bytes first r b) (λ v. member v (take k out-left)) ≡ number
+  pub reached : usable s rows (λ v. member v (take k out-left)) ≡ number
   -- "the first such set in dictionary order of its ascending numbers": every set before it leaves more
-  pub first-of-all : (failed : List ℕ) → FailedNodes n k failed → T (ascending 0 failed) → Before failed (take k out-left)
-      → number < usable s (recordsIn bytes first r b) (λ v. member v failed)
+  pub first-of-all : (failed : List ℕ) → FailedNodes m k failed → T (ascending 0 failed) → Before failed (take k out-left)
+      → number < usable s rows (λ v. member v failed)
   -- "it is at least the figure"
   pub above-figure : figure ≤ number
   -- bytes past k never change
@@ -66,12 +72,13 @@ pub record WorstKept (n r s k b figure first : ℕ) (bytes out out-left : List �
 worst-of-good : (p : Placement) → GoodPlacement p → TrueWorst (units p) (p .s) (p .k) (unitRows p) (worstOf p)
 unfolding worstOf
 worst-of-good p good =
-    let o = good .limits .order in
-    worst-exact (p .n) (p .s) (p .k) (p .b) (allRows (p .layers)) (omega (arith, o .k-most))
-    (le-of-eq (length-allRows (p .layers) ∙ good .limits .records-all))
-    (all-imp (Row (p .n) (p .r)) (All (λ v. v < p .n))
-    (λ row h. all-imp _ _ (λ v t. ltb→lt v (p .n) t) row (every-all (λ v. ltb v (p .n)) row (and-right (ascending 0 row) _ (h .1))))
-    (allRows (p .layers)) (good .rows))
+    let count : length (unitRows p) ≡ p .b =
+    length-allRows (unitLayers (p .feeders) (p .layers)) ∙ ap sizes (unit-heads (p .feeders) (p .layers)) ∙ good .limits .records-all in
+    worst-exact (units p) (p .s) (p .k) (p .b) (unitRows p) (omega (arith, units-within p good .0))
+    (le-of-eq count)
+    (all-imp (Row (units p) (p .r)) (All (λ v. v < units p))
+    (λ row h. all-imp _ _ (λ v t. ltb→lt v (units p) t) row (every-all (λ v. ltb v (units p)) row (and-right (ascending 0 row) _ (h .1))))
+    (unitRows p) (unit-rows-are p good))
 
 -- it is at least F
 figure-below : (p : Placement) → GoodPlacement p → p .figure ≤ worstOf p .fewest
@@ -80,46 +87,62 @@ figure-below p good =
     omega (
       arith,
       figureAt-planned p good,
-      figureAt-holds p good (p .k) (λ v. member v (worstOf p .set)) (failure-of-nodes (p .n) (p .k) (worstOf p .set) (w .nodes)),
+      figureAt-holds p good (p .k) (λ v. member v (worstOf p .set)) (failure-of-nodes (units p) (p .k) (worstOf p .set) (w .nodes)),
       w .reached,
     )
+
+-- the same over the records
+worst-by : {bytes : List ℕ} {kind n r s k b figure first m : ℕ} {rows : List (List ℕ)}
+    (fails : Fails bytes kind n r s k b figure first m rows)
+    → TrueWorst m s k rows (worstOf (fails .told .file .content))
+worst-by {s = s} {k = k} {m = m} fails =
+    let y = fails .told in
+    let p = y .file .content in
+    let w : TrueWorst m (p .s) k (unitRows p) (worstOf p) =
+    subst (λ c. TrueWorst c (p .s) k (unitRows p) (worstOf p)) (fails .units-are)
+    (subst (λ c. TrueWorst (units p) (p .s) c (unitRows p) (worstOf p)) (y .k-is) (worst-of-good p (y .good))) in
+    record {
+      least = λ failed f. rw (fails .leaves failed) at (w .least failed f);
+      nodes = w .nodes;
+      ascends = w .ascends;
+      reached = sym (fails .leaves (λ v. member v (worstOf p .set))) ∙ w .reached;
+      first = λ other f a before. rw (fails .leaves (λ v. member v other)) at (w .first other f a before);
+    }
 
 module _ (bytes out out-left : List ℕ) (given : WorstCase) (done : WorstDone (checkWorst bytes (length out)) out out-left given) where
   -- the same in the terms of the accepted placement
   worst-done : (file : Located Placement) → readPlacement bytes ≡ accepted file
-      → choose (file .content .n) (file .content .k) * file .content .b ≤ 16_777_216 → file .content .k ≤ length out
+      → choose (units (file .content)) (file .content .k) * file .content .b ≤ 16_777_216 → file .content .k ≤ length out
       → WorstDone (accepted (worstOf (file .content))) out out-left given
   unfolding checkWorst checkPlacement
   worst-done file e few enough =
       let p = file .content in
       let is : checkWorst bytes (length out) ≡ accepted (worstOf p) =
-      rw (e, le-leb (choose (p .n) (p .k) * p .b) 16_777_216 few, le-leb (p .k) (length out) enough) in
+      rw (e, le-leb (choose (units p) (p .k) * p .b) 16_777_216 few, le-leb (p .k) (length out) enough) in
       subst (λ c. WorstDone c out out-left given) is done
 
-  pub j-worst : {kind n r s k b figure first : ℕ} {layers : List ℕ}
-      → placementOutcome (placementChecked (readPlacement bytes)) ≡ result (kind ∷ n ∷ r ∷ s ∷ k ∷ b ∷ figure ∷ first ∷ layers)
-      → choose n k * b ≤ 16_777_216 → k ≤ length out → WorstKept n r s k b figure first bytes out out-left given
-  j-worst {kind} {n} {r} {s} {k} {b} {figure} {first} {layers} e few enough =
-      let y = says bytes e in
+  -- whatever can fail
+  pub worst-kept : {kind n r s k b figure first m : ℕ} {rows : List (List ℕ)} → Fails bytes kind n r s k b figure first m rows
+      → choose m k * b ≤ 16_777_216 → k ≤ length out → WorstKept m rows s k figure out out-left given
+  worst-kept {kind} {n} {r} {s} {k} {b} {figure} {first} {m} {rows} fails few enough =
+      let y = fails .told in
       let p = y .file .content in
-      let ns = y .n-is in
-      let ss = y .s-is in
       let ks = y .k-is in
-      let d = worst-done (y .file) (y .reads) (rw (ns, ks, y .b-is) few) (rw ks enough) in
-      let w : TrueWorst n s k (recordsIn bytes first r b) (worstOf p) = rw (ns, ss, ks, y .records) at (worst-of-good p (y .good)) in
+      let d = worst-done (y .file) (y .reads) (rw (fails .units-are, ks, y .b-is) few) (rw ks enough) in
+      let w = worst-by fails in
       let size : length (worstOf p .set) ≡ k = w .nodes .number in
       let start : take k out-left ≡ worstOf p .set =
       ap (take k) (d .output-after) ∙ take-at (worstOf p .set) (drop (length (worstOf p .set)) out) k size in
       record {
         number = worstOf p .fewest;
         answered = ap worstOutcome (d .answer);
-        least = λ failed f. w .least (λ v. member v failed) (failure-of-nodes n k failed f);
+        least = λ failed f. w .least (λ v. member v failed) (failure-of-nodes m k failed f);
         whichever = w .least;
         set = rw start (w .nodes);
         ascends = rw start (w .ascends);
         reached = rw start (w .reached);
         first-of-all = λ failed f a before. w .first failed f a (rw start at before);
-        above-figure = rw (y .figure-is) at (figure-below p (y .good));
+        above-figure = subst (λ c. c ≤ worstOf p .fewest) (y .figure-is) (figure-below p (y .good));
         rest =
             ap (drop k) (d .output-after)
             ∙ drop-at (worstOf p .set) (drop (length (worstOf p .set)) out) k size
@@ -128,6 +151,12 @@ module _ (bytes out out-left : List ℕ) (given : WorstCase) (done : WorstDone (
             ap length (d .output-after)
             ∙ omega (arith, length-append (worstOf p .set) (drop (length (worstOf p .set)) out), length-drop (length (worstOf p .set)) out);
       }
+
+  pub j-worst : {kind n r s k b figure first : ℕ} {layers : List ℕ}
+      → placementOutcome (placementChecked (readPlacement bytes)) ≡ result (kind ∷ n ∷ r ∷ s ∷ k ∷ b ∷ figure ∷ first ∷ layers)
+      → (kind ≡ 6 → ⊥)
+      → choose n k * b ≤ 16_777_216 → k ≤ length out → WorstKept n (recordsIn bytes first r b) s k figure out out-left given
+  j-worst e nodes = worst-kept (nodes-fail bytes e nodes)
 
   -- "after the placement is accepted": the checker's refusals come first
   pub j-checker-first : {number place : ℕ}
@@ -144,34 +173,44 @@ module _ (bytes out out-left : List ℕ) (given : WorstCase) (done : WorstDone (
           (ap worstOutcome (d .answer) ∙ p, d .output-after)
 
   -- "It refuses with 17 .. if C(n,k) × b is above 16,777,216", however long the output is
-  pub j-too-many : {kind n r s k b figure first : ℕ} {layers : List ℕ}
-      → placementOutcome (placementChecked (readPlacement bytes)) ≡ result (kind ∷ n ∷ r ∷ s ∷ k ∷ b ∷ figure ∷ first ∷ layers)
-      → 16_777_216 < choose n k * b → (worstOutcome given ≡ refusal 17 0) × (out-left ≡ out)
+  pub worst-too-many : {kind n r s k b figure first m : ℕ} {rows : List (List ℕ)} → Fails bytes kind n r s k b figure first m rows
+      → 16_777_216 < choose m k * b → (worstOutcome given ≡ refusal 17 0) × (out-left ≡ out)
   unfolding checkWorst checkPlacement
-  j-too-many e many =
-      let y = says bytes e in
+  worst-too-many fails many =
+      let y = fails .told in
       let p = y .file .content in
       let is : checkWorst bytes (length out) ≡ refused TooManySets =
-      rw (y .reads, lt-leb (choose (p .n) (p .k) * p .b) 16_777_216 (rw (y .n-is, y .k-is, y .b-is) many)) in
+      rw (y .reads, lt-leb (choose (units p) (p .k) * p .b) 16_777_216 (rw (fails .units-are, y .k-is, y .b-is) many)) in
       let d = subst (λ c. WorstDone c out out-left given) is done in
       (ap worstOutcome (d .answer), d .output-after)
 
-  -- "a shorter output is then 11": its place the bytes needed
-  pub j-short-output : {kind n r s k b figure first : ℕ} {layers : List ℕ}
+  pub j-too-many : {kind n r s k b figure first : ℕ} {layers : List ℕ}
       → placementOutcome (placementChecked (readPlacement bytes)) ≡ result (kind ∷ n ∷ r ∷ s ∷ k ∷ b ∷ figure ∷ first ∷ layers)
-      → choose n k * b ≤ 16_777_216 → length out < k → (worstOutcome given ≡ refusal 11 k) × (out-left ≡ out)
+      → (kind ≡ 6 → ⊥)
+      → 16_777_216 < choose n k * b → (worstOutcome given ≡ refusal 17 0) × (out-left ≡ out)
+  j-too-many e nodes = worst-too-many (nodes-fail bytes e nodes)
+
+  -- "a shorter output is then 11": its place the bytes needed
+  pub worst-short : {kind n r s k b figure first m : ℕ} {rows : List (List ℕ)} → Fails bytes kind n r s k b figure first m rows
+      → choose m k * b ≤ 16_777_216 → length out < k → (worstOutcome given ≡ refusal 11 k) × (out-left ≡ out)
   unfolding checkWorst checkPlacement
-  j-short-output {k = k} e few short =
-      let y = says bytes e in
+  worst-short {k = k} fails few short =
+      let y = fails .told in
       let p = y .file .content in
       let is : checkWorst bytes (length out) ≡ refused (ShortOutput (p .k)) =
       rw (
         y .reads,
-        le-leb (choose (p .n) (p .k) * p .b) 16_777_216 (rw (y .n-is, y .k-is, y .b-is) few),
+        le-leb (choose (units p) (p .k) * p .b) 16_777_216 (rw (fails .units-are, y .k-is, y .b-is) few),
         lt-leb (p .k) (length out) (rw (y .k-is) short),
       ) in
       let d = subst (λ c. WorstDone c out out-left given) is done in
       (ap worstOutcome (d .answer) ∙ ap (refusal 11) (y .k-is), d .output-after)
+
+  pub j-short-output : {kind n r s k b figure first : ℕ} {layers : List ℕ}
+      → placementOutcome (placementChecked (readPlacement bytes)) ≡ result (kind ∷ n ∷ r ∷ s ∷ k ∷ b ∷ figure ∷ first ∷ layers)
+      → (kind ≡ 6 → ⊥)
+      → choose n k * b ≤ 16_777_216 → length out < k → (worstOutcome given ≡ refusal 11 k) × (out-left ≡ out)
+  j-short-output e nodes = worst-short (nodes-fail bytes e nodes)
 
 -- what follows the checker
 rest-of : (output : ℕ) (p : Placement) → Checked Worst

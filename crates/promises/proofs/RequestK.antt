@@ -1,5 +1,6 @@
 -- Document 02, (k): "Cuts and repairs in turn", as theorems over the call's own contract: `roundsAnswer` of `checkRounds` is what
--- `rounds_code::rounds` ensures of its answer. Assumes nothing.
+-- `rounds_code::rounds` ensures of its answer. `k-rounds` and `k-then-18` are for placements of kinds 2, 3 and 5, whose nodes fail; those
+-- of kind 6, whose feeders fail, are in `RequestN`. Assumes nothing.
 use Prim.Native.Nat.{ℕ, suc, _+_, _-_, _≤_, _<_}
 use native.Mathlib.Omega.{arith}
 use mathlib.Core.Path.{_≡_, refl, sym, _∙_, ap, subst}
@@ -17,42 +18,46 @@ use Rattle.refusal.specs.Refusals.{result, refusal}
 use Rattle.refusal.specs.Checked.{Checked, accepted, refused, outcome, WritingDone}
 use Rattle.packing.specs.Rows.{Row, recordsIn}
 use Rattle.packing.specs.Failures.{Failure, usable}
-use Rattle.layers.specs.Layers.{Located}
+use Rattle.layers.specs.Layers.{Located, sizes}
 use Rattle.layers.proofs.Lengths.{length-allRows}
 use Rattle.placement.specs.Placement.{Placement, readPlacement, checkPlacement}
-use Rattle.placement.specs.Units.{figureAt}
+use Rattle.placement.specs.Feeders.{unitLayers}
+use Rattle.placement.specs.Units.{unitRows, figureAt}
 use Rattle.placement.specs.Answers.{placementChecked, placementOutcome}
-use Rattle.placement.proofs.Units.{figureAt-holds}
+use Rattle.placement.proofs.Units.{unit-rows-are, figureAt-holds}
+use Rattle.placement.proofs.FeederRows.{unit-heads}
 use Rattle.curve.specs.Curve.{checkCurve}
 use Rattle.rounds.specs.declared.RoundsAnswer.{RoundsAnswer}
-use Rattle.rounds.specs.Game.{mended, cut, crew, storm, rounds}
+use Rattle.rounds.specs.Game.{noneFailed, mended, cut, crew, storm, rounds}
 use Rattle.rounds.specs.Rounds.{roundsTaken, roundsOf, checkRounds}
 use Rattle.rounds.specs.Answers.{roundsAnswer, roundsOutcome}
 use Rattle.rounds.proofs.Number.{rows-below, usable-most, rounds-le, rounds-final, rounds-ge, rounds-whole}
 use Rattle.rounds.proofs.Best.{cut-order, CutMade, storm-best, storm-made, crew-best, crew-made}
 use Rattle.rounds.proofs.Checking.{Limits, limits-of}
-use Rattle.promises.proofs.Says.{not-both, says}
-use Rattle.promises.proofs.RequestC.{c-curve}
+use Rattle.promises.proofs.Says.{not-both}
+use Rattle.promises.proofs.Fails.{Fails, nodes-fail}
+use Rattle.promises.proofs.RequestC.{curve-kept}
 
 -- what the answer says is what the check says: the number, or the refusal's number and place
 pub k-answer : (c : Checked ℕ) → roundsOutcome (roundsAnswer c) ≡ outcome (λ number. number ∷ []) c
 k-answer (accepted number) = refl
 k-answer (refused e) = refl
 
--- What is promised of a call on an accepted placement, within the limits, that answered `given`.
-pub record RoundsKept (n r s b first q : ℕ) (bytes : List ℕ) (given : RoundsAnswer) : Type 0 where
-  -- "Give that number.": the game's, on the b records in the bytes
+-- What is promised of a call on an accepted placement of which m can fail, n nodes or (n) g feeders, and whose b records are `rows` as
+-- lists of these, within the limits, that answered `given`.
+pub record RoundsKept (m : ℕ) (rows : List (List ℕ)) (s b q : ℕ) (bytes : List ℕ) (given : RoundsAnswer) : Type 0 where
+  -- "Give that number.": the game's, on the b records
   pub number : ℕ
   pub answered : roundsOutcome given ≡ result (number ∷ [])
-  pub game : number ≡ rounds n s (recordsIn bytes first r b) q
+  pub game : number ≡ rounds m s rows q
   -- the fewest usable records over all sets of q+1 nodes: never more than after any such failure ..
-  pub fewest : (failed : ℕ → Bool) → Failure n (suc q) failed → number ≤ usable s (recordsIn bytes first r b) failed
+  pub fewest : (failed : ℕ → Bool) → Failure m (suc q) failed → number ≤ usable s rows failed
   -- .. and as many as after one
   pub worst : ℕ → Bool
-  pub worst-size : Failure n (suc q) worst
-  pub worst-left : usable s (recordsIn bytes first r b) worst ≡ number
+  pub worst-size : Failure m (suc q) worst
+  pub worst-left : usable s rows worst ≡ number
   -- "For q+1 from s to n-1 it is at least the curve's figure for q+1 failures": the entry that a call of the curve writes for them
-  pub at-least : s ≤ suc q → suc q < n → (out out-left : List ℕ) (curve : Writing) → n - s ≤ length out
+  pub at-least : s ≤ suc q → suc q < m → (out out-left : List ℕ) (curve : Writing) → m - s ≤ length out
       → WritingDone (checkCurve bytes (length out)) out out-left curve → getD out-left (suc q - s) 0 ≤ number
   -- "If q+1 is below s it is b."
   pub whole : suc q < s → number ≡ b
@@ -63,39 +68,50 @@ within-taken n b q l =
     rw (le-leb 1 q (l .least), le-leb q 3 (l .most), le-leb n 10 (l .few), le-leb (q + 2) n (l .room), le-leb b 256 (l .records))
 
 module _ (bytes : List ℕ) (q : ℕ) (given : RoundsAnswer) (done : given ≡ roundsAnswer (checkRounds bytes q)) where
-  pub k-rounds : {kind n r s k b figure first : ℕ} {layers : List ℕ}
-      → placementOutcome (placementChecked (readPlacement bytes)) ≡ result (kind ∷ n ∷ r ∷ s ∷ k ∷ b ∷ figure ∷ first ∷ layers)
-      → Limits n b q → RoundsKept n r s b first q bytes given
-  unfolding checkRounds checkPlacement roundsOf
-  k-rounds {kind} {n} {r} {s} {k} {b} {figure} {first} {layers} e l =
-      let y = says bytes e in
+  -- whatever can fail
+  pub rounds-kept : {kind n r s k b figure first m : ℕ} {rows : List (List ℕ)} → Fails bytes kind n r s k b figure first m rows
+      → Limits m b q → RoundsKept m rows s b q bytes given
+  unfolding checkRounds checkPlacement roundsOf rounds
+  rounds-kept {kind} {n} {r} {s} {k} {b} {figure} {first} {m} {rows} fails l =
+      let y = fails .told in
       let p = y .file .content in
-      let rows = recordsIn bytes first r b in
-      let in-order = subst (λ c. All (Row c (p .r)) rows) (y .n-is) (subst (All (Row (p .n) (p .r))) (y .records) (y .good .rows)) in
-      let below = rows-below n (p .r) rows in-order in
-      let room : suc q ≤ n = omega (arith, l .room) in
-      let is : checkRounds bytes q ≡ accepted (roundsOf p q) = rw (y .reads, y .n-is, y .b-is, within-taken n b q l) in
-      let same : roundsOf p q ≡ rounds n s rows q = rw (y .n-is, y .s-is, y .records) in
-      let size : length rows ≡ b = sym (ap length (y .records)) ∙ length-allRows (p .layers) ∙ y .good .limits .records-all ∙ y .b-is in
-      let end = rounds-final n s rows q (l .least) room in
+      let units-rows = unitRows p in
+      let in-order : All (Row m (p .r)) units-rows =
+      subst (λ c. All (Row c (p .r)) units-rows) (fails .units-are) (unit-rows-are p (y .good)) in
+      let below = rows-below m (p .r) units-rows in-order in
+      let room : suc q ≤ m = omega (arith, l .room) in
+      let is : checkRounds bytes q ≡ accepted (roundsOf p q) = rw (y .reads, fails .units-are, y .b-is, within-taken m b q l) in
+      let count : length units-rows ≡ b =
+      length-allRows (unitLayers (p .feeders) (p .layers)) ∙ ap sizes (unit-heads (p .feeders) (p .layers)) ∙ y .good .limits .records-all
+      ∙ y .b-is in
+      let leaves = fails .leaves in
+      let alike : length units-rows ≡ length rows = count ∙ sym (fails .size) in
+      let by-rows : rounds m (p .s) units-rows q ≡ rounds m s rows q =
+      λ i. storm m (alike i) (λ failed. leaves failed i) (q - 1) noneFailed in
+      let same : roundsOf p q ≡ rounds m s rows q = rw (fails .units-are) by-rows in
+      let end = rounds-final m (p .s) units-rows q (l .least) room in
       record {
-        number = rounds n s rows q;
+        number = rounds m s rows q;
         answered = ap roundsOutcome (done ∙ ap roundsAnswer (is ∙ ap accepted same));
         game = refl;
-        fewest = rounds-le n s rows q (l .least) below;
+        fewest = λ failed f. rw (by-rows, leaves failed) at (rounds-le m (p .s) units-rows q (l .least) below failed f);
         worst = end .set;
         worst-size = end .number;
-        worst-left = end .gives;
+        worst-left = sym (leaves (end .set)) ∙ end .gives ∙ by-rows;
         at-least = λ least most out out-left curve enough wrote.
-            let c = c-curve bytes out out-left curve wrote e enough in
+            let c = curve-kept bytes out out-left curve wrote fails enough in
             let one : c .placement ≡ p = cc (c .accepts, y .reads) in
-            rw (c .formula (suc q) least most, one)
-            (rounds-ge n s rows q (l .least) room (figureAt p (suc q))
-            (λ failed f. subst (λ c. figureAt p (suc q) ≤ usable c rows failed) (y .s-is)
-            (subst (λ m. figureAt p (suc q) ≤ usable (p .s) m failed) (y .records)
-            (figureAt-holds p (y .good) (suc q) failed (rw (y .n-is) f)))));
-        whole = λ few. rounds-whole n (p .r) s rows q in-order (l .least) room few ∙ size;
+            rw (c .formula (suc q) least most, one, ← by-rows)
+            (rounds-ge m (p .s) units-rows q (l .least) room (figureAt p (suc q))
+            (λ failed f. figureAt-holds p (y .good) (suc q) failed (rw (fails .units-are) f)));
+        whole = λ few. sym by-rows ∙ rounds-whole m (p .r) (p .s) units-rows q in-order (l .least) room (rw (y .s-is) few) ∙ count;
       }
+
+  pub k-rounds : {kind n r s k b figure first : ℕ} {layers : List ℕ}
+      → placementOutcome (placementChecked (readPlacement bytes)) ≡ result (kind ∷ n ∷ r ∷ s ∷ k ∷ b ∷ figure ∷ first ∷ layers)
+      → (kind ≡ 6 → ⊥)
+      → Limits n b q → RoundsKept n (recordsIn bytes first r b) s b q bytes given
+  k-rounds e nodes = rounds-kept (nodes-fail bytes e nodes)
 
   -- the checker's refusals come first
   pub k-checker-first : {number place : ℕ}
@@ -111,14 +127,14 @@ module _ (bytes : List ℕ) (q : ℕ) (given : RoundsAnswer) (done : given ≡ r
           ap roundsOutcome (done ∙ ap roundsAnswer e) ∙ p
 
   -- "It refuses with 18, after the placement is accepted, if q is outside 1 to 3, n is above 10 or below q+2, or b is above 256."
-  pub k-then-18 : {kind n r s k b figure first : ℕ} {layers : List ℕ}
-      → placementOutcome (placementChecked (readPlacement bytes)) ≡ result (kind ∷ n ∷ r ∷ s ∷ k ∷ b ∷ figure ∷ first ∷ layers)
-      → ((q < 1) ⊎ (3 < q)) ⊎ (((10 < n) ⊎ (n < q + 2)) ⊎ (256 < b)) → roundsOutcome given ≡ refusal 18 0
+  pub rounds-18 : {kind n r s k b figure first m : ℕ} {rows : List (List ℕ)} → Fails bytes kind n r s k b figure first m rows
+      → ((q < 1) ⊎ (3 < q)) ⊎ (((10 < m) ⊎ (m < q + 2)) ⊎ (256 < b)) → roundsOutcome given ≡ refusal 18 0
   unfolding checkRounds checkPlacement
-  k-then-18 {n = n} {b = b} e bad =
-      let y = says bytes e in
-      let outside : roundsTaken n b q ≡ false = T-not-false (roundsTaken n b q) (λ t. none (limits-of n b q (true-T (roundsTaken n b q) t)) bad) in
-      let is : checkRounds bytes q ≡ refused BadRounds = rw (y .reads, y .n-is, y .b-is, outside) in
+  rounds-18 {b = b} {m = n} fails bad =
+      let y = fails .told in
+      let outside : roundsTaken n b q ≡ false =
+      T-not-false (roundsTaken n b q) (λ t. none (limits-of n b q (true-T (roundsTaken n b q) t)) bad) in
+      let is : checkRounds bytes q ≡ refused BadRounds = rw (y .reads, fails .units-are, y .b-is, outside) in
       ap roundsOutcome (done ∙ ap roundsAnswer is)
     where
       none : Limits n b q → ((q < 1) ⊎ (3 < q)) ⊎ (((10 < n) ⊎ (n < q + 2)) ⊎ (256 < b)) → ⊥
@@ -127,6 +143,12 @@ module _ (bytes : List ℕ) (q : ℕ) (given : RoundsAnswer) (done : given ≡ r
       none l (inr (inl (inl h))) = omega (arith, l .few)
       none l (inr (inl (inr h))) = omega (arith, l .room)
       none l (inr (inr h)) = omega (arith, l .records)
+
+  pub k-then-18 : {kind n r s k b figure first : ℕ} {layers : List ℕ}
+      → placementOutcome (placementChecked (readPlacement bytes)) ≡ result (kind ∷ n ∷ r ∷ s ∷ k ∷ b ∷ figure ∷ first ∷ layers)
+      → (kind ≡ 6 → ⊥)
+      → ((q < 1) ⊎ (3 < q)) ⊎ (((10 < n) ⊎ (n < q + 2)) ⊎ (256 < b)) → roundsOutcome given ≡ refusal 18 0
+  k-then-18 e nodes = rounds-18 (nodes-fail bytes e nodes)
 
 -- "each side answers the other's best move": no two working nodes leave fewer than the storm's cut, in either order, and some two
 -- leave as many, wherever two work

@@ -19,7 +19,7 @@ use Rattle.pack.specs.Pack.{readPack, Pack}
 use Rattle.pack.proofs.Padding.{readPack-padded}
 use Rattle.pack.specs.Answers.{packChecked, packOutcome}
 use Rattle.placement.specs.Placement.{Placement, readPlacement, checkPlacement}
-use Rattle.placement.specs.Answers.{placementChecked, placementOutcome}
+use Rattle.placement.specs.Answers.{tableOf, tableValues, placementChecked, placementOutcome}
 use Rattle.placement.proofs.Accepted.{read-of-placement}
 use Rattle.placement.proofs.Padding.{readPlacement-padded}
 use Rattle.placement.specs.declared.Order.{Order}
@@ -92,7 +92,7 @@ SameContent file other = file .content ≡ other .content
 -- forms f and g of the same numbers, any first ones of the head, and the same bytes after them. Both are accepted, with the same
 -- pack or placement, or both are refused, with the same number, also where the file is bad further on; places may differ. A
 -- pack's head has 3 + 2r numbers, by the r that is the third, and those of its list (request (h)); a placement's 7 + 2s, by the s
--- that comes after r and the list, and the list's.
+-- that comes after r and the list, and the list's. For the numbers after the rows of kind 6 the same is `n-same-feeders`.
 pub b-same-pack : (numbers f g rest : List ℕ) → Forms numbers f → Forms numbers g
     → length numbers ≤ 3 + listSize numbers + 2 * getD numbers 2 0
     → Agree SameContent (readPack (f ++ rest)) (readPack (g ++ rest))
@@ -124,7 +124,7 @@ placement-answers : {c d : Checked (Located Placement)} → Agree SameContent c 
 placement-answers (both-accepted same) =
     results
     (ap (λ p. p .kind ∷ p .n ∷ p .r ∷ p .s ∷ p .k ∷ p .b ∷ p .figure ∷ []) same)
-    (ap (λ p. headNumbers (fiveHeads (headsOf (p .layers))) ++ darkValues (darkOf (p .dark))) same)
+    (ap (λ p. headNumbers (fiveHeads (headsOf (p .layers))) ++ (darkValues (darkOf (p .dark)) ++ tableValues (p .n) (tableOf (p .feeders)))) same)
 placement-answers (both-refused e) = refusals e
 
 pub b-same-pack-answer : (numbers f g rest : List ℕ) → Forms numbers f → Forms numbers g

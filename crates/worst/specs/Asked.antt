@@ -1,5 +1,5 @@
 -- What the call asks and gives once the placement is accepted: of the rows in bytes, whatever can fail in them. Assumes nothing.
-use Prim.Native.Nat.{ℕ, _*_, _≤_}
+use Prim.Native.Nat.{ℕ, _*_, _≤_, _<_}
 use mathlib.Core.Path.{_≡_}
 use mathlib.Core.List.{List}
 use lib.ListN.{length}
@@ -10,6 +10,8 @@ use Rattle.refusal.specs.Checked.{Checked, accepted, _>>=_, require}
 use Rattle.packing.specs.Rows.{distinct, rowsAt}
 use Rattle.worst.specs.declared.Shape.{Shape}
 use Rattle.placement.specs.declared.Order.{Order}
+use Rattle.placement.specs.declared.FeederTable.{FeederTable}
+use Rattle.placement.specs.Answers.{rowsByTable}
 use Rattle.worst.specs.Worst.{Worst, worstOver, fewSets}
 
 -- b rows of r bytes, no row with a byte twice, and numbers within limits
@@ -24,6 +26,13 @@ pub record RowsAsked (shape : Shape) (order : Order) (rows : List ℕ) : Type 0 
   pub b-least : 1 ≤ order .b
   pub b-most : order .b ≤ 4_096
   pub apart : All (λ row. T (distinct row)) (rowsAt (shape .r) (order .b) rows)
+
+-- (n) "exact count .. read[s] feeders for nodes, g for n": rows of nodes below 255 whose rows of feeders are such rows
+pub record FeedersAsked (table : FeederTable) (r : ℕ) (order : Order) (rows : List ℕ) : Type 0 where
+  pub below : All (λ v. v < 255) rows
+  pub entries : length (table .each) ≡ 255
+  pub inside : length rows ≡ order .b * r
+  pub asked : RowsAsked (record { n = table .number; r = r }) order (rowsByTable (table .each) r (order .b) rows)
 
 -- the fewest usable records and the first such set of these rows
 abbrev pub worstRows : Shape → Order → (rows : List ℕ) → Worst

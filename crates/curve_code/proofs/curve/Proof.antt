@@ -14,14 +14,17 @@ enum-known-answer c = search needs
 enum-known-answer-2 : tie.Need-enum-known-answer-2
 enum-known-answer-2 c = search needs
 
+units-of-requires : tie.Need-units-of-requires
+units-of-requires c κs = search needs
+
 write-accepted-requires : tie.Need-write-accepted-requires
 write-accepted-requires c κs =
-    let m = c .before .before .before .before in
-    curve-asked _ (m .before .check-placement .ensures) (c .before .before .answer2 .given .1)
+    let told = c .before .before .before in
+    rw (c .before .units-of .ensures) (curve-asked _ (told .before .before .before .before .check-placement .ensures) (told .answer2 .given .1))
 
 returns : tie.Need-returns
 returns c =
-    let k = c .before .before .before .before in
+    let k = c .before .before .before .before .before in
     rw (curve-of-refused _ (k .check-placement .ensures) (c .before .answer .given .1) _)
     (record { answer = refl; output-after = refl })
 
@@ -31,8 +34,9 @@ same-length c = search needs
 returns-2 : tie.Need-returns-2
 returns-2 c =
     let w = c .before .before in
-    let m = w .before .before .before .before .before in
-    rw (curve-of-check _ (m .before .check-placement .ensures) (w .before .before .before .answer2 .given .1) _)
+    let u = w .before .before in
+    let told = u .before .before in
+    rw (curve-of-check _ (told .before .before .before .before .check-placement .ensures) (told .answer2 .given .1) _, ← u .units-of .ensures)
     (w .write-accepted .ensures)
 
 pub curve-spec : {M : Type 1} → statement M
@@ -42,6 +46,7 @@ curve-spec =
     check-placement-requires
     enum-known-answer
     enum-known-answer-2
+    units-of-requires
     write-accepted-requires
     returns
     same-length

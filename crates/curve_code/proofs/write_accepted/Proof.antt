@@ -16,7 +16,7 @@ sub-entries c = search needs
 returns : tie.Need-returns
 returns c =
     let a = c .before .before .args in
-    curve-refused (a .head) (a .layers) (a .out .now) (c .if1 .taken)
+    curve-refused (a .head) (a .units) (a .layers) (a .out .now) (c .if1 .taken)
 
 rule-of-requires : tie.Need-rule-of-requires
 rule-of-requires c κs = search needs
@@ -24,7 +24,7 @@ rule-of-requires c κs = search needs
 write-figures-requires : tie.Need-write-figures-requires
 write-figures-requires c κs =
     let p = c .before .before .before .before .pre in
-    (p .asked, omega (arith, p .s-nodes, p .n-most), c .before .before .if1 .left)
+    (p .asked, omega (arith, p .s-units, p .units-most), c .before .before .if1 .left)
 
 same-length : tie.Need-same-length
 same-length c = search needs
@@ -34,8 +34,8 @@ returns-2 c =
     let w = c .before .before in
     let r = w .before .before in
     let a = r .before .before .before .args in
-    curve-written (a .head) (a .layers) (a .out .now) (r .before .if1 .left)
-    (w .write-figures .ensures ∙ ap (λ rule. sets (a .out .now) 0 (figuresFrom rule (a .head .s) (a .head .b) (a .layers) (a .head .n - a .head .s))) (r .rule-of .ensures))
+    curve-written (a .head) (a .units) (a .layers) (a .out .now) (r .before .if1 .left)
+    (w .write-figures .ensures ∙ ap (λ rule. sets (a .out .now) 0 (figuresFrom rule (a .head .s) (a .head .b) (a .layers) (a .units - a .head .s))) (r .rule-of .ensures))
 
 pub write-accepted-spec : {M : Type 1} → statement M
 write-accepted-spec =

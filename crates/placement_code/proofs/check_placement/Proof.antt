@@ -3,14 +3,13 @@
 use native.Mathlib.Omega.{arith}
 use mathlib.Core.Path.{_≡_, refl, _∙_}
 use Rattle.refusal.specs.Checked.{accepted}
-use Rattle.refusal.proofs.Checked.{verdict-good, verdict-refused}
-use Rattle.layers.specs.Layers.{readBase, checkRows}
+use Rattle.layers.specs.Layers.{readBase}
 use Rattle.layers.specs.Answers.{siteOf}
 use Rattle.layers.specs.declared.FileKind.the-variants.{Placement as PlacementKind}
 use Rattle.layers.proofs.Answered.{BaseGood, LayersGood, base-refused, base-good, layers-refused, layers-good}
-use Rattle.placement.specs.Placement.{placementLayerLimits, readTerms}
+use Rattle.placement.specs.Placement.{placementLayerLimits, readTerms, checkRecords}
 use Rattle.placement.proofs.Answered.{terms-refused, terms-good}
-use Rattle.placement_code.proofs.Checking.{order-limits, placement-rows-asked, figure-asked, placement-no-base, no-terms, placement-no-layers, placement-no-rows, wrong-figure, right-figure}
+use Rattle.placement_code.proofs.Checking.{records-refused, records-good, order-limits, placement-rows-asked, figure-asked, placement-no-base, no-terms, placement-no-layers, placement-no-rows, wrong-figure, right-figure}
 use borrow.Author.Needs.{needs}
 use Rattle.placement_code.proofs.check_placement.Statement.{statement}
 use Rattle.placement_code.proofs.check_placement.Tie as tie
@@ -98,12 +97,11 @@ returns-3 c =
 enum-told-3 : tie.Need-enum-told-3
 enum-told-3 c = search needs
 
-check-rows-requires : tie.Need-check-rows-requires
-check-rows-requires c κs =
+check-records-requires : tie.Need-check-records-requires
+check-records-requires c κs =
     let l = c .before in
     let o = l .before .before .before .before in
-    let asked = placement-rows-asked _ (base-of (o .before .before .before .before)) (terms-of o) (layers-of l) in
-    (asked .0, (asked .1, good-base (o .before .before .before .before) .fits))
+    placement-rows-asked _ (base-of (o .before .before .before .before)) (terms-of o) (layers-of l) refl (good-base (o .before .before .before .before) .fits)
 
 enum-known-rows-verdict : tie.Need-enum-known-rows-verdict
 enum-known-rows-verdict c = search needs
@@ -117,7 +115,7 @@ returns-4 c =
     let o = l .before .before .before .before in
     c .refuse4 .ensures
     ∙ placement-no-rows _ (base-of (o .before .before .before .before)) (terms-of o) (layers-of l)
-    (verdict-refused (checkRows _ _ _ _) (c .before .before .before .before .check-rows .ensures) (c .before .before .rows-verdict .given .1))
+    (records-refused (checkRecords _ _ _ _ _ _) (c .before .before .before .before .check-records .ensures) (c .before .before .rows-verdict .given .1))
 
 enum-told-4 : tie.Need-enum-told-4
 enum-told-4 c = search needs
@@ -141,19 +139,19 @@ returns-5 c =
     let o = l .before .before .before .before in
     c .refuse5 .ensures
     ∙ wrong-figure _ (base-of (o .before .before .before .before)) (terms-of o) (layers-of l)
-    (verdict-good (checkRows _ _ _ _) (r .before .before .check-rows .ensures) (r .enum-told4 .given .1) .1)
+    (records-good (checkRecords _ _ _ _ _ _) (r .before .before .check-records .ensures) (r .enum-told4 .given .1) .1)
     (c .before .before .before .figure-of .ensures ∙ rw (c .before .before .before .before .rule-of .ensures) refl) (c .before .if1 .taken)
 
 returns-6 : tie.Need-returns-6
 returns-6 c =
-    let f = c .before in
+    let f = c .before .before in
     let r = f .before .before .before .before in
     let l = r .before .before .before .before in
     let o = l .before .before .before .before in
     let b = o .before .before .before .before in
-    right-figure _ (base-of b) (terms-of o) (layers-of l)
-    (verdict-good (checkRows _ _ _ _) (r .before .before .check-rows .ensures) (r .enum-told4 .given .1) .1)
-    (f .before .before .figure-of .ensures ∙ rw (f .before .before .before .rule-of .ensures) refl) (f .if1 .left) (good-base b .array)
+    let good = records-good (checkRecords _ _ _ _ _ _) (r .before .before .check-records .ensures) (r .enum-told4 .given .1) in
+    right-figure _ (base-of b) (terms-of o) (layers-of l) (good .1)
+    (f .before .before .figure-of .ensures ∙ rw (f .before .before .before .rule-of .ensures) refl) (f .if1 .left) (good-base b .array) (good .2)
 
 pub check-placement-spec : {M : Type 1} → statement M
 check-placement-spec =
@@ -174,7 +172,7 @@ check-placement-spec =
     refuse-requires-3
     returns-3
     enum-told-3
-    check-rows-requires
+    check-records-requires
     enum-known-rows-verdict
     refuse-requires-4
     returns-4

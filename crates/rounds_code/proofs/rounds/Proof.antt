@@ -1,8 +1,9 @@
--- `rounds_code::rounds` meets its contract: the refusal of the placement's check, or what comes of its numbers. Assumes nothing.
+-- `rounds_code::rounds` meets its contract: the refusal of the placement's check, or what comes of its numbers, by nodes or by feeders.
+-- Assumes nothing.
 use mathlib.Core.Path.{sym, _∙_, ap}
 use borrow.Author.Needs.{needs}
 use Rattle.rounds.specs.Answers.{roundsAnswer}
-use Rattle.rounds.proofs.Checking.{rows-held, rounds-of-check, rounds-of-refused}
+use Rattle.rounds.proofs.Checking.{rows-held, rounds-of-check, fed-held, rounds-of-fed, rounds-of-refused}
 use Rattle.rounds_code.proofs.rounds.Statement.{statement}
 use Rattle.rounds_code.proofs.rounds.Tie as tie
 
@@ -17,20 +18,33 @@ enum-known-answer-2 c = search needs
 
 play-accepted-requires : tie.Need-play-accepted-requires
 play-accepted-requires c κs =
-    let m = c .before .before .before in
-    rows-held _ (m .check-placement .ensures) (c .before .answer2 .given .1)
+    let told = c .before .before .before in
+    rows-held _ (told .before .before .before .check-placement .ensures) (told .answer2 .given .1) (c .if1 .taken)
 
 returns : tie.Need-returns
 returns c =
-    let m = c .before .before .before in
-    sym (ap roundsAnswer (rounds-of-refused _ (m .check-placement .ensures) (c .before .answer .given .1) (m .before .before .args .q)))
+    let told = c .before .before .before .before in
+    let m = told .before .before .before in
+    c .play-accepted .ensures
+    ∙ sym (ap roundsAnswer (rounds-of-check _ (m .check-placement .ensures) (told .answer2 .given .1) (c .before .if1 .taken) (m .before .before .args .q)))
+
+play-feeders-requires : tie.Need-play-feeders-requires
+play-feeders-requires c κs =
+    let told = c .before .before .before in
+    fed-held _ (told .before .before .before .check-placement .ensures) (told .answer2 .given .1) (c .if1 .left)
 
 returns-2 : tie.Need-returns-2
 returns-2 c =
-    let k = c .before .before in
-    let m = k .before .before in
-    c .play-accepted .ensures
-    ∙ sym (ap roundsAnswer (rounds-of-check _ (m .check-placement .ensures) (k .answer2 .given .1) (m .before .before .args .q)))
+    let m = c .before .before .before .before in
+    sym (ap roundsAnswer (rounds-of-refused _ (m .check-placement .ensures) (c .before .answer .given .1) (m .before .before .args .q)))
+
+returns-3 : tie.Need-returns-3
+returns-3 c =
+    let told = c .before .before .before .before in
+    let m = told .before .before .before in
+    let played = c .play-feeders .ensures in
+    played .answer
+    ∙ sym (ap roundsAnswer (rounds-of-fed _ (m .check-placement .ensures) (told .answer2 .given .1) (c .before .if1 .left) (played .after) (m .before .before .args .q)))
 
 pub rounds-spec : {M : Type 1} → statement M
 rounds-spec =
@@ -41,4 +55,6 @@ rounds-spec =
     enum-known-answer-2
     play-accepted-requires
     returns
-    returns-2)
+    play-feeders-requires
+    returns-2
+    returns-3)

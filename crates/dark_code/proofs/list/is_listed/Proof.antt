@@ -7,7 +7,10 @@ returns : tie.Need-returns
 returns c = rw (eq-eqb _ 4 (c .if1 .taken))
 
 returns-2 : tie.Need-returns-2
-returns-2 c = rw (ne-eqb _ 4 (c .if1 .left))
+returns-2 c = rw (ne-eqb _ 4 (c .before .if1 .left), eq-eqb _ 5 (c .if2 .taken))
+
+returns-3 : tie.Need-returns-3
+returns-3 c = rw (ne-eqb _ 4 (c .before .if1 .left), ne-eqb _ 5 (c .if2 .left))
 
 pub is-listed-spec : {M : Type 1} → statement M
-is-listed-spec = tie.close (tie.spec returns returns-2)
+is-listed-spec = tie.close (tie.spec returns returns-2 returns-3)

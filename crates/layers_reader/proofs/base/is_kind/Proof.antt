@@ -23,7 +23,12 @@ returns-3 : tie.Need-returns-3
 returns-3 c = rw (c .before .before .enum-told2 .given .1, ne-eqb _ 2 (c .before .if1 .left), eq-eqb _ 3 (c .if2 .taken))
 
 returns-4 : tie.Need-returns-4
-returns-4 c = rw (c .before .before .enum-told2 .given .1, ne-eqb _ 2 (c .before .if1 .left), ne-eqb _ 3 (c .if2 .left))
+returns-4 c =
+    rw (c .before .before .before .enum-told2 .given .1, ne-eqb _ 2 (c .before .before .if1 .left), ne-eqb _ 3 (c .before .if2 .left), eq-eqb _ 5 (c .if3 .taken))
+
+returns-5 : tie.Need-returns-5
+returns-5 c =
+    rw (c .before .before .before .enum-told2 .given .1, ne-eqb _ 2 (c .before .before .if1 .left), ne-eqb _ 3 (c .before .if2 .left), ne-eqb _ 5 (c .if3 .left))
 
 pub is-kind-spec : {M : Type 1} → statement M
-is-kind-spec = tie.close (tie.spec enum-told is-pack-requires returns enum-told-2 returns-2 returns-3 returns-4)
+is-kind-spec = tie.close (tie.spec enum-told is-pack-requires returns enum-told-2 returns-2 returns-3 returns-4 returns-5)

@@ -1,0 +1,3 @@
+pub mod Unfed
+pub mod FedAnswers
+pub mod UnitAnswers

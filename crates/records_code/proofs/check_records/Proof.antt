@@ -1,0 +1,25 @@
+-- `records_code::check_records` meets its contract: kind 6 is checked apart, and every other kind as its rows are. Assumes nothing.
+use native.Mathlib.Omega.{arith}
+use mathlib.Core.Path.{_≡_}
+use borrow.Author.Tests.{ne-eqb}
+use Rattle.records_code.proofs.Unfed.{unfed-answer}
+use borrow.Author.Needs.{needs}
+use Rattle.records_code.proofs.check_records.Statement.{statement}
+use Rattle.records_code.proofs.check_records.Tie as tie
+
+check-fed-requires : tie.Need-check-fed-requires
+check-fed-requires c κs = c .before .before .pre
+
+returns : tie.Need-returns
+returns c = rw (c .before .if1 .taken) (c .check-fed .ensures)
+
+check-rows-requires : tie.Need-check-rows-requires
+check-rows-requires c κs =
+    let p = c .before .before .pre in
+    ((p .rows .few, p .rows .r-most, p .inside), (p .rows .rows-most, p .dark))
+
+returns-2 : tie.Need-returns-2
+returns-2 c = unfed-answer _ _ _ _ _ _ (ne-eqb _ 6 (c .before .if1 .left)) (c .check-rows .ensures)
+
+pub check-records-spec : {M : Type 1} → statement M
+check-records-spec = tie.close (tie.spec check-fed-requires returns check-rows-requires returns-2)

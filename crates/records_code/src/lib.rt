@@ -1,0 +1,45 @@
+// Checking a placement's rows and, in kind 6, the feeders after them.
+mod fed;
+mod feeders;
+mod units;
+
+use fed::check_fed;
+use layers::Base;
+use layers::LayerHead;
+use placement::FeederTable;
+use placement::RecordsCheck;
+use placement::Terms;
+ghost use mathlib.Core.Path.{_≡_};
+ghost use lib.ListN.{take};
+ghost use Rattle.layers.specs.Answers.{siteOf};
+ghost use Rattle.placement.specs.Placement.{checkRecords};
+ghost use Rattle.placement.specs.Answers.{recordsCheck};
+ghost use Rattle.placement.specs.Asked.{RecordsAsked};
+
+// The rows of a placement of this kind, which start at `at`, and in kind 6 the feeders after them: good, or refusal 1 for the rows'
+// length, 1, 2 or 4 for a number after them, 5, 6 over all rows, 15, 21, 7.
+pub fn check_records(
+    bytes: &[u8],
+    at: usize,
+    kind: usize,
+    base: Base,
+    terms: Terms,
+    heads: [LayerHead; 5],
+) -> RecordsCheck
+    requires { ⌜ RecordsAsked base terms heads (now bytes) at ⌝ }
+    ensures { λ check. ⌜ check
+        ≡ recordsCheck (checkRecords kind (siteOf base) (terms .k) (take (terms .s) heads) (now (bytes .entry)) at) ⌝ }
+{
+    if kind == 6 {
+        return check_fed(bytes, at, base, terms, heads);
+    }
+    let s = terms.s;
+    let verdict = layers_code::check_rows(bytes, at, base, s, heads);
+    RecordsCheck {
+        verdict,
+        table: FeederTable {
+            number: 0,
+            each: [0; 255],
+        },
+    }
+}
