@@ -34,7 +34,7 @@ fn refuse(e: Refusal) -> PackCheck
 pub fn check_pack(bytes: &[u8]) -> PackCheck
     ensures { λ check. ⌜ check ≡ packChecked (readPack (now (bytes .entry))) ⌝ }
 {
-    let head = layers_reader::read_base(bytes, FileKind::Pack);
+    let head = layers_base::read_base(bytes, FileKind::Pack);
     let head_verdict = head.verdict;
     if let Verdict::Refused(e) = head_verdict {
         return refuse(e);

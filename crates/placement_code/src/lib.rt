@@ -45,7 +45,7 @@ fn refuse(e: Refusal) -> PlacementCheck
 pub fn check_placement(bytes: &[u8]) -> PlacementCheck
     ensures { λ check. ⌜ check ≡ placementChecked (readPlacement (now (bytes .entry))) ⌝ }
 {
-    let head = layers_reader::read_base(bytes, FileKind::Placement);
+    let head = layers_base::read_base(bytes, FileKind::Placement);
     let head_verdict = head.verdict;
     if let Verdict::Refused(e) = head_verdict {
         return refuse(e);

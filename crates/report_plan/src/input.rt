@@ -33,7 +33,7 @@ pub(crate) fn plan_input(input: &[u8], work: &mut [u16], out: &mut [u8]) -> usiz
     ensures { λ r. ⌜ Replied (planReply (now (input .entry))) r (now (out .entry)) (now (out .exit)) ⌝ }
     ensures { λ _. ⌜ WorkAfter (planInput (now (input .entry))) (now (work .entry)) (now (work .exit)) ⌝ }
 {
-    match crate::reader::read_order(input) {
+    match report_order::read_order(input) {
         OrderRead::Refused(e) => report_lines::refused_line(out, e),
         OrderRead::Value(read) => {
             let at = read.at;

@@ -1,6 +1,4 @@
 // Cuts and repairs in turn on a placement.
-mod players;
-mod states;
 mod tables;
 
 use placement::FeederTable;
@@ -46,7 +44,7 @@ fn play(rows: &[u8], head: PlacementHead, q: usize) -> usize
     let repairs = q - 1;
     let mut usable = [0u16; 1024];
     tables::count_states(rows, r, s, b, n, &mut usable);
-    players::storm(&usable, n, b, repairs, 0)
+    rounds_players::storm(&usable, n, b, repairs, 0)
 }
 
 // The answer for an accepted placement.

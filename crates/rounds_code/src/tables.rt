@@ -1,5 +1,4 @@
 // The usable records of every state.
-use crate::states::bit;
 ghost use mathlib.Core.Path.{_≡_};
 ghost use mathlib.Core.List.{map};
 ghost use Prim.Native.Nat.{_^_, _≤_, _<_};
@@ -50,7 +49,7 @@ pub(crate) fn count_states(rows: &[u8], r: usize, s: usize, b: usize, n: usize, 
     ensures { λ _. ⌜ now (table .exit)
         ≡ sets (now (table .entry)) 0 (map (λ state. usableOf s (rowsAt r b (now (rows .entry))) (downIn state)) (upTo (2 ^ n))) ⌝ }
 {
-    let states = bit(n);
+    let states: usize = 1 << n;
     let mut state: usize = 0;
     while state < states {
         table[state] = usable_in(rows, r, s, b, state) as u16;

@@ -1,12 +1,12 @@
 // Going through the sets of k nodes by choosing or leaving each node, with each record's replicas on failed nodes at hand.
 use packing::Node;
 use worst::Search;
-use worst_ends::choose_rest;
-use worst_ends::last_node;
-use worst_ends::last_two;
 use worst_hits::entries_of;
 use worst_hits::lower;
 use worst_hits::raise;
+use worst_last::last_node;
+use worst_rest::choose_rest;
+use worst_two::last_two;
 ghost use Prim.Native.Nat.{_+_, _<_};
 ghost use Rattle.worst.specs.Searches.{NextChosen, Searched, Searching};
 

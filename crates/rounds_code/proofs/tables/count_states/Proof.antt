@@ -1,9 +1,11 @@
 -- `rounds_code::tables::count_states` meets its contract. The loop's invariant: the usable records of the states before `state` are
 -- stored. Assumes nothing.
-use Prim.Native.Nat.{_-_, _≤_, _<_}
+use Prim.Native.Nat.{ℕ, _-_, _*_, _%_, _^_, _≤_, _<_}
 use native.Mathlib.Omega.{arith}
-use native.Mathlib.Nat.{zero-add}
+use native.Mathlib.Nat.{zero-add, one-mul}
 use mathlib.Core.Path.{_≡_, _∙_, ap}
+use lib.Dec.{lit<}
+use lib.Pow.{shl-exact}
 use Rattle.lists.proofs.Stores.{storedTo, stored-none, stored-next, length-stored}
 use Rattle.packing.specs.Rows.{rowsAt}
 use Rattle.packing.specs.Failures.{usable as usableOf}
@@ -11,6 +13,7 @@ use Rattle.packing.proofs.RowsAt.{length-rowsAt}
 use Rattle.rounds.specs.States.{downIn}
 use Rattle.rounds.proofs.States.{states-few}
 use Rattle.rounds.proofs.Number.{usable-most}
+use borrow.Author.Needs.{needs}
 use Rattle.rounds_code.proofs.tables.count_states.Statement.{statement}
 use Rattle.rounds_code.proofs.tables.count_states.Tie as tie
 
@@ -21,26 +24,29 @@ Inv-loop rows r s b n table₀ states state₀ table state =
 abbrev μ-loop : tie.MeasureT-loop
 μ-loop rows r s b n table₀ states state₀ table state = states - state
 
+-- there are so many states of n nodes
+states-are : (n : ℕ) → n ≤ 10 → (1 * 2 ^ n) % 2 ^ 64 ≡ 2 ^ n
+states-are n h = shl-exact 1 n 64 (lit< tt) (omega arith) ∙ one-mul _
+
 -- the state has a place in the table
 small : (c : tie.In-loop Inv-loop μ-loop) → c .before .loop .state < 1_024
 small c =
-    let called = c .before .before in
-    let s = called .before .before .before in
-    omega (arith, c .loop-test .taken, called .bit .ensures, states-few (s .args .n) (s .pre .1 .0))
+    let s = c .before .before .before .before in
+    omega (arith, c .loop-test .taken, states-are (s .args .n) (s .pre .1 .0), states-few (s .args .n) (s .pre .1 .0))
 
-bit-requires : tie.Need-bit-requires Inv-loop μ-loop
-bit-requires c κs = c .before .before .pre .1 .0
+shl-states : tie.Need-shl-states Inv-loop μ-loop
+shl-states c = search needs
 
 loop-holds : tie.Need-loop-holds Inv-loop μ-loop
 loop-holds c = (stored-none 0 _ _, omega arith)
 
 usable-in-requires : tie.Need-usable-in-requires Inv-loop μ-loop
-usable-in-requires c κs = c .before .before .before .before .before .pre .0
+usable-in-requires c κs = c .before .before .before .before .pre .0
 
 cast-table : tie.Need-cast-table Inv-loop μ-loop
 cast-table c =
     let l = c .before .before in
-    let s = l .before .before .before .before in
+    let s = l .before .before .before in
     let rows = rowsAt (s .args .r) (s .args .b) (s .args .rows .now) in
     omega (
       arith,
@@ -56,7 +62,7 @@ mul-table c = omega (arith, small (c .before))
 slice-write-table : tie.Need-slice-write-table Inv-loop μ-loop
 slice-write-table c =
     let l = c .before .before in
-    let s = l .before .before .before .before in
+    let s = l .before .before .before in
     let e = length-stored 0 _ _ _ (l .loop .inv .0) in
     omega (arith, small (c .before), s .pre .1 .2)
 
@@ -69,7 +75,7 @@ loop-less c = omega (arith, c .before .loop-test .taken)
 loop-again : tie.Need-loop-again Inv-loop μ-loop
 loop-again c =
     let l = c .before .before in
-    let a = l .before .before .before .before .args in
+    let a = l .before .before .before .args in
     let next = stored-next 0 _ (λ i. usableOf (a .s) (rowsAt (a .r) (a .b) (a .rows .now)) (downIn i)) (l .loop .state) _ (l .loop .inv .0)
     (c .usable-in .ensures) in
     (rw zero-add at next, omega (arith, c .before .loop-test .taken))
@@ -81,11 +87,11 @@ same-length c =
 returns : tie.Need-returns Inv-loop μ-loop
 returns c =
     let l = c .before in
-    let called = l .before in
-    let a = called .before .before .before .args in
-    let e : l .loop .state ≡ called .bit .result = omega (arith, c .loop-test .left, l .loop .inv .1) in
+    let s = l .before .before .before in
+    let a = s .args in
+    let e : l .loop .state ≡ (1 * 2 ^ a .n) % 2 ^ 64 = omega (arith, c .loop-test .left, l .loop .inv .1) in
     l .loop .inv .0
-    ∙ ap (storedTo 0 (a .table .now) (λ i. usableOf (a .s) (rowsAt (a .r) (a .b) (a .rows .now)) (downIn i))) (e ∙ called .bit .ensures)
+    ∙ ap (storedTo 0 (a .table .now) (λ i. usableOf (a .s) (rowsAt (a .r) (a .b) (a .rows .now)) (downIn i))) (e ∙ states-are (a .n) (s .pre .1 .0))
 
 pub count-states-spec : {M : Type 1} → statement M
 count-states-spec =
@@ -93,7 +99,7 @@ count-states-spec =
     (tie.spec
     Inv-loop
     μ-loop
-    bit-requires
+    shl-states
     loop-holds
     usable-in-requires
     cast-table

@@ -11,9 +11,9 @@ use Rattle.worst_search.proofs.+choose+search.Lts-search as search-lts
 use Rattle.worst_hits.proofs.entries_of.Reads as entries-of-reads
 use Rattle.worst_hits.proofs.lower.Reads as lower-reads
 use Rattle.worst_hits.proofs.raise.Reads as raise-reads
-use Rattle.worst_ends.proofs.choose_rest.Reads as choose-rest-reads
-use Rattle.worst_ends.proofs.last_node.Reads as last-node-reads
-use Rattle.worst_ends.proofs.last_two.Reads as last-two-reads
+use Rattle.worst_rest.proofs.choose_rest.Reads as choose-rest-reads
+use Rattle.worst_last.proofs.last_node.Reads as last-node-reads
+use Rattle.worst_two.proofs.last_two.Reads as last-two-reads
 
 abbrev pub μ-choose : Measures 4 choose-kinds.ps ℕ
 μ-choose κs a = 2 * (a .0 .n - a .0 .next .0)
