@@ -4,8 +4,6 @@ ghost use Prim.Native.Nat.{_≤_};
 ghost use lib.ListN.{length};
 ghost use Rattle.report.specs.Programs.{checkLine};
 ghost use Rattle.report.specs.Replies.{lineNeeded, Replied};
-use libc::STDIN_FILENO;
-use libc::STDOUT_FILENO;
 use report::LINE_NEEDED;
 use report::Reply;
 
@@ -24,11 +22,15 @@ fn reply(input: &[u8], out: &mut [u8]) -> usize
 fn answer(input: &[u8]) {
     let mut out = [0u8; LINE_NEEDED];
     let length = reply(input, &mut out);
-    io::write_all(STDOUT_FILENO, &out[0..length]);
+    console::write_output(&out[0..length]);
 }
 
 fn main() {
     let mut buffer = [0u8; 32768];
-    let n = io::read_full(STDIN_FILENO, &mut buffer);
-    answer(&buffer[0..n]);
+    let taken = console::read_input(&mut buffer);
+    if !taken.good {
+        return;
+    }
+    let count = taken.count;
+    answer(&buffer[0..count]);
 }

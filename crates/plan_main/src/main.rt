@@ -1,37 +1,39 @@
-// `plan`: reads s, k and b and then a pack on standard input, and writes the placement, or the line of the refusal. No byte
-// after the first 32,768 changes what is written.
+// `plan`: takes s, k and b, then a pack on standard input, and writes the placement, or the line of the refusal.
+// No byte after the first 32,768 of standard input changes what is written.
 ghost use Prim.Native.Nat.{_≤_};
 ghost use lib.ListN.{length};
-ghost use Rattle.planner.specs.Planning.{workMost, outputMost};
-ghost use Rattle.report.specs.Programs.{planReply};
+ghost use Rattle.planner.specs.Planning.{outputMost};
 ghost use Rattle.report.specs.Replies.{Replied};
-use libc::STDIN_FILENO;
-use libc::STDOUT_FILENO;
+ghost use Rattle.replies.specs.Plans.{planProgram};
 use report::OUTPUT_MOST;
 use report::Reply;
-use report::WORK_MOST;
 
-// Puts what is written for the input at the start of `out`, and answers its length: such slices are never refused.
-fn reply(input: &[u8], work: &mut [u16], out: &mut [u8]) -> usize
-    requires { ⌜ (workMost ≤ length (now work)) × (outputMost ≤ length (now out)) ⌝ }
-    ensures { λ r. ⌜ Replied (planReply (now (input .entry))) r (now (out .entry)) (now (out .exit)) ⌝ }
+// Puts what is written for the arguments and the input at the start of `out`, and answers its length: such a slice is never refused.
+fn reply(arguments: &[u8], input: &[u8], out: &mut [u8]) -> usize
+    requires { ⌜ outputMost ≤ length (now out) ⌝ }
+    ensures { λ r. ⌜ Replied (planProgram (now (arguments .entry)) (now (input .entry))) r (now (out .entry)) (now (out .exit)) ⌝ }
 {
-    let Reply::Written(length) = report_plan::plan_reply(input, work, out) else {
+    let Reply::Written(length) = reply_plan::plan_reply(arguments, input, out) else {
         return 0;
     };
     length
 }
 
-// Writes the reply for the input.
-fn answer(input: &[u8]) {
-    let mut work = [0u16; WORK_MOST];
+// Writes the reply for the arguments and the input.
+fn answer(arguments: &[u8], input: &[u8]) {
     let mut out = [0u8; OUTPUT_MOST];
-    let length = reply(input, &mut work, &mut out);
-    io::write_all(STDOUT_FILENO, &out[0..length]);
+    let length = reply(arguments, input, &mut out);
+    console::write_output(&out[0..length]);
 }
 
 fn main() {
+    let mut words = [0u8; 272];
+    let size = command::arguments(&mut words);
     let mut buffer = [0u8; 32768];
-    let n = io::read_full(STDIN_FILENO, &mut buffer);
-    answer(&buffer[0..n]);
+    let taken = console::read_input(&mut buffer);
+    if !taken.good {
+        return;
+    }
+    let count = taken.count;
+    answer(&words[0..size], &buffer[0..count]);
 }

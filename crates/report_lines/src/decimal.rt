@@ -5,7 +5,7 @@ ghost use Rattle.report.specs.Programs.{decimal};
 ghost use Rattle.report_lines.specs.Put.{Put};
 
 // Puts `n` in decimal at `at`, and answers the place after it.
-pub(crate) fn put_decimal(out: &mut [u8], at: usize, n: usize) -> usize
+pub fn put_decimal(out: &mut [u8], at: usize, n: usize) -> usize
     requires { ⌜ at + length (decimal n) ≤ length (now out) ⌝ }
     ensures { λ next. ⌜ Put (decimal n) (now (out .entry)) at next (now (out .exit)) ⌝ }
 {

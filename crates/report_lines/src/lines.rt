@@ -8,7 +8,7 @@ use refusal::Refusal;
 use report::Summary;
 
 // Puts the line of a word and numbers at the start of `out`, and answers its length.
-fn line(out: &mut [u8], word: &[u8], numbers: &[usize]) -> usize
+pub fn line(out: &mut [u8], word: &[u8], numbers: &[usize]) -> usize
     requires { ⌜ length (now word) + 21 * length (now numbers) + 1 ≤ length (now out) ⌝ }
     ensures { λ r. ⌜ Replied (now (word .entry) ++ rest (now (numbers .entry))) r (now (out .entry)) (now (out .exit)) ⌝ }
 {

@@ -5,7 +5,7 @@ ghost use Rattle.report.specs.Programs.{rest};
 ghost use Rattle.report_lines.specs.Put.{Put};
 
 // Puts each number with a space before it at `at`, then a newline, and answers the place after it.
-pub(crate) fn put_rest(out: &mut [u8], at: usize, numbers: &[usize]) -> usize
+pub fn put_rest(out: &mut [u8], at: usize, numbers: &[usize]) -> usize
     requires { ⌜ at + 21 * length (now numbers) + 1 ≤ length (now out) ⌝ }
     ensures { λ next. ⌜ Put (rest (now (numbers .entry))) (now (out .entry)) at next (now (out .exit)) ⌝ }
 {

@@ -1,6 +1,7 @@
--- `plan_main::reply` meets its contract: slices of these lengths are long enough, so the reply is written. Assumes nothing.
+-- `plan_main::reply` meets its contract: a slice of this length is long enough, so the reply is written. Assumes nothing.
 use borrow.Author.Needs.{needs}
-use Rattle.report.proofs.Replies.{planInto-enough, reply-written, reply-not-refused}
+use Rattle.report.proofs.Replies.{reply-written, reply-not-refused}
+use Rattle.replies.proofs.Replying.{into-enough}
 use Rattle.plan_main.proofs.reply.Statement.{statement}
 use Rattle.plan_main.proofs.reply.Tie as tie
 
@@ -16,28 +17,20 @@ enum-told c = search needs
 same-length : tie.Need-same-length
 same-length c = search needs
 
+returns : tie.Need-returns
+returns c =
+    let p = c .before .before .before .before in
+    let s = p .before .before .before .before .before in
+    absurd (reply-not-refused _ (p .plan-reply .ensures) (into-enough _ _ _ (s .pre)) (c .enum-told .given .1))
+
 same-length-2 : tie.Need-same-length-2
 same-length-2 c = search needs
 
-returns : tie.Need-returns
-returns c =
-    let p = c .before .before .before .before .before .before in
-    let s = p .before .before .before .before .before .before in
-    let enough = planInto-enough _ _ (s .pre .0) (s .args .input .now) (s .pre .1) in
-    absurd (reply-not-refused _ (p .plan-reply .ensures .0) enough (c .enum-told .given .1))
-
-same-length-3 : tie.Need-same-length-3
-same-length-3 c = search needs
-
-same-length-4 : tie.Need-same-length-4
-same-length-4 c = search needs
-
 returns-2 : tie.Need-returns-2
 returns-2 c =
-    let p = c .before .before .before .before .before .before .before in
-    let s = p .before .before .before .before .before .before in
-    let enough = planInto-enough _ _ (s .pre .0) (s .args .input .now) (s .pre .1) in
-    reply-written _ (p .plan-reply .ensures .0) enough (c .before .length .given .1)
+    let p = c .before .before .before .before .before in
+    let s = p .before .before .before .before .before in
+    reply-written _ (p .plan-reply .ensures) (into-enough _ _ _ (s .pre)) (c .before .length .given .1)
 
 pub reply-spec : {M : Type 1} → statement M
 reply-spec =
@@ -47,8 +40,6 @@ reply-spec =
     enum-known-length
     enum-told
     same-length
-    same-length-2
     returns
-    same-length-3
-    same-length-4
+    same-length-2
     returns-2)

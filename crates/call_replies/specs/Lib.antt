@@ -1,0 +1,9 @@
+pub mod Orders
+pub mod Curve
+pub mod Worst
+pub mod Rounds
+pub mod Page
+pub mod Committing
+pub mod Offers
+pub mod Operators
+pub mod Join

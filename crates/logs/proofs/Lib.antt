@@ -1,0 +1,6 @@
+pub mod Lines
+pub mod Texts
+pub mod Nodes
+pub mod Prefix
+pub mod Says
+pub mod Worked

@@ -1,0 +1,38 @@
+// `page`: reads a placement on standard input and prints the page that crews pin inside a cabinet's door.
+// No byte after the first 32,768 of standard input changes what is written.
+ghost use Prim.Native.Nat.{_≤_};
+ghost use lib.ListN.{length};
+ghost use Rattle.report.specs.Replies.{Replied};
+ghost use Rattle.call_replies.specs.Page.{pageReply, pageNeeded};
+use call_replies::PAGE_NEEDED;
+use report::Reply;
+
+// Puts what is written for the arguments and the input at the start of `out`, and answers its length: such a slice is never refused.
+fn reply(arguments: &[u8], input: &[u8], out: &mut [u8]) -> usize
+    requires { ⌜ pageNeeded ≤ length (now out) ⌝ }
+    ensures { λ r. ⌜ Replied (pageReply (now (arguments .entry)) (now (input .entry))) r (now (out .entry)) (now (out .exit)) ⌝ }
+{
+    let Reply::Written(length) = reply_page::page_reply(arguments, input, out) else {
+        return 0;
+    };
+    length
+}
+
+// Writes the reply for the arguments and the input.
+fn answer(arguments: &[u8], input: &[u8]) {
+    let mut out = [0u8; PAGE_NEEDED];
+    let length = reply(arguments, input, &mut out);
+    console::write_output(&out[0..length]);
+}
+
+fn main() {
+    let mut words = [0u8; 272];
+    let size = command::arguments(&mut words);
+    let mut buffer = [0u8; 32768];
+    let taken = console::read_input(&mut buffer);
+    if !taken.good {
+        return;
+    }
+    let count = taken.count;
+    answer(&words[0..size], &buffer[0..count]);
+}

@@ -1,0 +1,5 @@
+pub mod Replying
+pub mod Planned
+pub mod Worked
+pub mod Programs
+pub mod Prefix

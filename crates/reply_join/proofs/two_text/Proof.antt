@@ -1,0 +1,29 @@
+-- `reply_join::two_text` meets its contract: what the call left, and the line of its refusal. Assumes nothing.
+use Rattle.reply_join.proofs.Joins.{told-replied}
+use borrow.Author.Needs.{needs}
+use Rattle.reply_join.proofs.two_text.Statement.{statement}
+use Rattle.reply_join.proofs.two_text.Tie as tie
+
+join-two-requires : tie.Need-join-two-requires
+join-two-requires c κs = search needs
+
+tell-requires : tie.Need-tell-requires
+tell-requires c κs = search needs
+
+same-length : tie.Need-same-length
+same-length c = search needs
+
+returns : tie.Need-returns
+returns c =
+    let l = c .before .before in
+    let p = l .before .before .before .before in
+    told-replied _ (p .before .before .before .before .before .args .out .now) (p .join-two .ensures) (l .tell .ensures)
+
+pub two-text-spec : {M : Type 1} → statement M
+two-text-spec =
+    tie.close
+    (tie.spec
+    join-two-requires
+    tell-requires
+    same-length
+    returns)

@@ -1,0 +1,206 @@
+-- "Reading what was printed gives the pack back." Assumes nothing.
+use Prim.Native.Nat.{ℕ, zero, suc, _+_, _*_, _-_, _≤_, _<_}
+use native.Mathlib.Omega.{arith}
+use native.Mathlib.Nat.{add-zero}
+use mathlib.Core.Path.{_≡_, refl, sym, _∙_, ap, subst}
+use mathlib.Core.Bool.{Bool, true, false, cond, _&&_}
+use mathlib.Core.List.{List, [], _∷_, _++_, map, flatten, append-assoc, append-nil}
+use mathlib.Core.Option.{some}
+use lib.ListN.{length, getD, set, length-append}
+use lib.Seq.{set-at, getD-at}
+use lib.Dec.{T, leb, ltb, eqb}
+use borrow.Author.Tests.{lt-ltb, le-leb, eq-eqb, ltb-true}
+use Rattle.lists.specs.Lists.{All, every, total}
+use Rattle.lists.proofs.Alls.{all-imp, every-all, all-append-left, all-append-right}
+use Rattle.lists.proofs.Tests.{true-T, and-right}
+use Rattle.lists.proofs.Counts.{flatten-append}
+use Rattle.refusal.specs.Checked.{accepted, refused}
+use Rattle.refusal.proofs.Checked.{mapAccepted-accepted}
+use Rattle.number.specs.Numbers.{formsOf}
+use Rattle.packing.specs.Rows.{Row, ascending, inOrder}
+use Rattle.layers.specs.Layers.{Layer, Located, BaseLimits, allRows, headsOf, headNumbers, sizes, listNumbers}
+use Rattle.layers.proofs.Listing.{dark-count}
+use Rattle.pack.specs.Pack.{Pack, PackLimits, GoodPack, packNumbers, bytesOfPack, readPack, checkPack}
+use Rattle.pack.proofs.Written.{pack-written-accepted}
+use Rattle.table.specs.declared.Word.the-variants.{Table, Out, Mu, Plain}
+use Rattle.table.specs.Told.{Told, good, bad, _>>=_, unless}
+use Rattle.table.specs.Lines.{linesOf, begins, wordOf, readNumbers, before}
+use Rattle.table.specs.Reading.{Draft, startDraft, headTaken, addTable, addOut, addLayer, addBlock, oneMore, addNumbers, addContent, addLine, readLines, readText, draftBytes, packIf, packDraft, packOf}
+use Rattle.table.specs.Printing.{textLine, outText, layerText, tableText}
+use Rattle.table.proofs.Numbers.{Short}
+use Rattle.table.proofs.Printed.{read-line}
+
+-- nodes of a row, and of the list, are short numbers
+module _ (n : ℕ) (n-most : n ≤ 255) where
+  nodes-short : (nodes : List ℕ) → T (inOrder n nodes) → All Short nodes
+  nodes-short nodes h =
+      all-imp (λ v. T (ltb v n)) Short (λ v t. omega (arith, ltb-true v n (true-T (ltb v n) t))) nodes
+      (every-all (λ v. ltb v n) nodes (and-right (ascending 0 nodes) (every (λ v. ltb v n) nodes) h))
+
+-- a draft of these parts
+abbrev draft : (n r layers blocks : ℕ) (numbers rows lines : List ℕ) → Draft
+draft n r layers blocks numbers rows lines =
+    record { n = n; r = r; layers = layers; blocks = blocks; numbers = numbers; rows = rows; lines = lines }
+
+one-more : (before : List ℕ) (m : ℕ) → oneMore (before ++ (m ∷ [])) ≡ before ++ (suc m ∷ [])
+one-more before m =
+    let len : length (before ++ (m ∷ [])) - 1 ≡ length before = omega (arith, length-append before (m ∷ [])) in
+    rw (len, getD-at before m [] 0 (length before) refl) (set-at before m [] (suc m) (length before) refl)
+
+module _ (n r layers : ℕ) (n-most : n ≤ 255) (r-least : 1 ≤ r) (r-most : r ≤ 5) (open-layer : 0 < layers) where
+  block-added : (line blocks : ℕ) (numbers rows lines row : List ℕ) → Row n r row → blocks < 4_096
+      → addNumbers line Plain row (draft n r layers blocks numbers rows lines)
+      ≡ good (draft n r layers (suc blocks) (oneMore numbers) (rows ++ row) (lines ++ (line ∷ [])))
+  unfolding addNumbers addBlock
+  block-added line blocks numbers rows lines [] h few = absurd (let e = h .0 in omega arith)
+  block-added line blocks numbers rows lines (v ∷ row) h few =
+      rw (lt-ltb 0 layers open-layer, eq-eqb (length (v ∷ row)) r (h .0), lt-ltb blocks 4_096 few, true-T (inOrder n (v ∷ row)) (h .1))
+
+  -- a layer's blocks
+  read-blocks : (P : Told Draft → Type 0) (blockRows : List (List ℕ)) (more : List ℕ) (line blocks m : ℕ) (numbers rows lines : List ℕ)
+      → All (Row n r) blockRows → blocks + length blockRows ≤ 4_096
+      → ((line′ : ℕ) (lines′ : List ℕ)
+      → P (readLines line′ (linesOf more)
+      (draft n r layers (blocks + length blockRows) (numbers ++ ((m + length blockRows) ∷ [])) (rows ++ flatten blockRows) lines′)))
+      → P (readLines line (linesOf (flatten (map (textLine Plain) blockRows) ++ more))
+      (draft n r layers blocks (numbers ++ (m ∷ [])) rows lines))
+  unfolding flatten
+  read-blocks P [] more line blocks m numbers rows lines all few k =
+      let b : blocks + 0 ≡ blocks = omega arith in
+      let c : m + 0 ≡ m = omega arith in
+      rw (b, c, append-nil rows) at (k line lines)
+  read-blocks P (row ∷ blockRows) more line blocks m numbers rows lines all few k =
+      let d = draft n r layers blocks (numbers ++ (m ∷ [])) rows lines in
+      let short = nodes-short n n-most row (all .0 .1) in
+      let whole : (textLine Plain row ++ flatten (map (textLine Plain) blockRows)) ++ more
+      ≡ textLine Plain row ++ (flatten (map (textLine Plain) blockRows) ++ more) =
+      append-assoc (textLine Plain row) (flatten (map (textLine Plain) blockRows)) more in
+      rw (
+        whole,
+        read-line Plain row short (let e = all .0 .0 in omega arith) line (flatten (map (textLine Plain) blockRows) ++ more) d,
+        block-added line blocks (numbers ++ (m ∷ [])) rows lines row (all .0) (omega arith),
+        one-more numbers m,
+      )
+      (read-blocks P blockRows more (suc line) (suc blocks) (suc m) numbers (rows ++ row) (lines ++ (line ∷ [])) (all .1) (omega arith)
+      λ line′ lines′.
+      let b : suc blocks + length blockRows ≡ blocks + suc (length blockRows) = omega arith in
+      let c : suc m + length blockRows ≡ m + suc (length blockRows) = omega arith in
+      rw (b, c, append-assoc rows row (flatten blockRows)) (k line′ lines′))
+
+-- a layer: its mu, and its blocks
+module _ (n r : ℕ) (n-most : n ≤ 255) (r-least : 1 ≤ r) (r-most : r ≤ 5) where
+  layer-added : (line layers blocks mu : ℕ) (numbers rows lines : List ℕ) → layers < r → 1 ≤ mu → mu ≤ 4_096
+      → addNumbers line Mu (mu ∷ []) (draft n r layers blocks numbers rows lines)
+      ≡ good (draft n r (suc layers) blocks ((numbers ++ (mu ∷ [])) ++ (0 ∷ [])) rows lines)
+  unfolding addNumbers addLayer
+  layer-added line layers blocks mu numbers rows lines below least most =
+      rw (lt-ltb layers r below, le-leb 1 mu least, le-leb mu 4_096 most, append-assoc numbers (mu ∷ []) (0 ∷ []))
+
+  read-layers : (P : Told Draft → Type 0) (ls : List Layer) (more : List ℕ) (line layers blocks : ℕ) (numbers rows lines : List ℕ)
+      → All (Row n r) (allRows ls) → All (λ layer. (1 ≤ layer .bound) × (layer .bound ≤ 4_096)) ls
+      → layers + length ls ≤ r → blocks + sizes (headsOf ls) ≤ 4_096
+      → ((line′ : ℕ) (lines′ : List ℕ)
+      → P (readLines line′ (linesOf more)
+      (draft n r (layers + length ls) (blocks + sizes (headsOf ls)) (numbers ++ headNumbers (headsOf ls)) (rows ++ flatten (allRows ls)) lines′)))
+      → P (readLines line (linesOf (flatten (map layerText ls) ++ more)) (draft n r layers blocks numbers rows lines))
+  unfolding flatten total headNumbers
+  read-layers P [] more line layers blocks numbers rows lines all bounds fit few k =
+      let a : layers + 0 ≡ layers = omega arith in
+      let b : blocks + 0 ≡ blocks = omega arith in
+      rw (a, b, append-nil rows, append-nil numbers) at (k line lines)
+  read-layers P (layer ∷ ls) more line layers blocks numbers rows lines all bounds fit few k =
+      let mu = layer .bound in
+      let text = flatten (map (textLine Plain) (layer .rows)) in
+      let others = flatten (map layerText ls) in
+      let d = draft n r layers blocks numbers rows lines in
+      let own = all-append-left (Row n r) (layer .rows) (allRows ls) all in
+      let whole : ((textLine Mu (mu ∷ []) ++ text) ++ others) ++ more ≡ textLine Mu (mu ∷ []) ++ (text ++ (others ++ more)) =
+      append-assoc (textLine Mu (mu ∷ []) ++ text) others more ∙ append-assoc (textLine Mu (mu ∷ [])) text (others ++ more) in
+      let small : All Short (mu ∷ []) = (omega (arith, bounds .0 .1), tt) in
+      rw (
+        whole,
+        read-line Mu (mu ∷ []) small (omega arith) line (text ++ (others ++ more)) d,
+        layer-added line layers blocks mu numbers rows lines (omega arith) (bounds .0 .0) (bounds .0 .1),
+      )
+      (read-blocks n r (suc layers) n-most r-least r-most (omega arith) P (layer .rows) (others ++ more) (suc line) blocks 0
+      (numbers ++ (mu ∷ [])) rows lines own (omega arith)
+      λ line′ lines′.
+      read-layers P ls more line′ (suc layers) (blocks + length (layer .rows))
+      ((numbers ++ (mu ∷ [])) ++ ((0 + length (layer .rows)) ∷ [])) (rows ++ flatten (layer .rows)) lines′
+      (all-append-right (Row n r) (layer .rows) (allRows ls) all) (bounds .1) (omega arith) (omega arith)
+      λ line″ lines″.
+      let a : suc layers + length ls ≡ layers + suc (length ls) = omega arith in
+      let b : blocks + length (layer .rows) + sizes (headsOf ls) ≡ blocks + (length (layer .rows) + sizes (headsOf ls)) = omega arith in
+      let m : 0 + length (layer .rows) ≡ length (layer .rows) = omega arith in
+      let ns : ((numbers ++ (mu ∷ [])) ++ (length (layer .rows) ∷ [])) ++ headNumbers (headsOf ls)
+      ≡ numbers ++ (mu ∷ length (layer .rows) ∷ headNumbers (headsOf ls)) =
+      append-assoc (numbers ++ (mu ∷ [])) (length (layer .rows) ∷ []) (headNumbers (headsOf ls))
+      ∙ append-assoc numbers (mu ∷ []) (length (layer .rows) ∷ headNumbers (headsOf ls)) in
+      let rs : (rows ++ flatten (layer .rows)) ++ flatten (allRows ls) ≡ rows ++ flatten (layer .rows ++ allRows ls) =
+      append-assoc rows (flatten (layer .rows)) (flatten (allRows ls)) ∙ ap (λ l. rows ++ l) (sym (flatten-append (layer .rows) (allRows ls))) in
+      rw (a, b, m, ns, rs) (k line″ lines″))
+
+module _ (n r : ℕ) (limits : BaseLimits n r) where
+  -- the first line
+  table-added : addNumbers 1 Table (n ∷ r ∷ []) startDraft ≡ good (draft n r 0 0 (4 ∷ n ∷ r ∷ 0 ∷ []) [] [])
+  unfolding addNumbers addTable headTaken
+  table-added =
+      rw (le-leb 2 n (limits .n-least), le-leb n 255 (limits .n-most), le-leb 2 r (limits .r-least), le-leb r 5 (limits .r-most), le-leb r n (limits .r-nodes))
+
+  -- the nodes out of service
+  read-out : (P : Told Draft → Type 0) (dark more : List ℕ) (line : ℕ) → T (inOrder n dark)
+      → ((line′ : ℕ) → P (readLines line′ (linesOf more) (draft n r 0 0 (4 ∷ n ∷ r ∷ length dark ∷ dark) [] [])))
+      → P (readLines line (linesOf (outText dark ++ more)) (draft n r 0 0 (4 ∷ n ∷ r ∷ 0 ∷ []) [] []))
+  unfolding addNumbers addOut
+  read-out P [] more line order k = k line
+  read-out P (v ∷ dark) more line order k =
+      let few = dark-count n (v ∷ dark) order in
+      rw (
+        read-line Out (v ∷ dark) (nodes-short n (limits .n-most) (v ∷ dark) order) (omega (arith, limits .n-most, few)) line more
+            (draft n r 0 0 (4 ∷ n ∷ r ∷ 0 ∷ []) [] []),
+        true-T (inOrder n (v ∷ dark)) order,
+      )
+      (k (suc line))
+
+-- after the last layer
+read-end : (line n r blocks : ℕ) (numbers rows lines : List ℕ) → 1 ≤ r
+    → readLines line (linesOf []) (draft n r r blocks numbers rows lines) ≡ good (draft n r r blocks numbers rows lines)
+unfolding linesOf readLines addLine addContent before wordOf begins readNumbers addNumbers
+read-end line n r blocks numbers rows lines h = rw (lt-ltb 0 r h, eq-eqb r r refl)
+
+module _ (p : Pack) (g : GoodPack p) where
+  -- the check accepts the pack's bytes, so it is what is made
+  pack-made : (d : Draft) → draftBytes d ≡ bytesOfPack p → packDraft d ≡ good (bytesOfPack p)
+  unfolding checkPack packDraft
+  pack-made d same =
+      let (file, is, content) = mapAccepted-accepted (λ file. file .content) (readPack (bytesOfPack p)) (pack-written-accepted p g) in
+      rw (same, is) (ap good same)
+
+  -- reading on from here makes the pack
+  abbrev Makes : Told Draft → Type 0
+  Makes t = (t >>= packDraft) ≡ good (bytesOfPack p)
+
+  -- A pack's text gives its bytes back: those of its file of kind 4, each number in its shortest form.
+  pub pack-of-text : packOf (tableText p) ≡ good (bytesOfPack p)
+  unfolding packOf readText tableText draftBytes bytesOfPack listNumbers
+  pack-of-text =
+      let base = g .limits .base in
+      let n = p .n in
+      let r = p .r in
+      let layers = p .layers in
+      let small : All Short (n ∷ r ∷ []) = (omega (arith, base .n-most), (omega (arith, base .r-most), tt)) in
+      let each : 0 + length layers ≡ r = omega (arith, g .limits .layer-each) in
+      rw (read-line Table (n ∷ r ∷ []) small (omega arith) 1 (outText (p .dark) ++ flatten (map layerText layers)) startDraft, table-added n r base)
+      (read-out n r base Makes (p .dark) (flatten (map layerText layers)) 2 (g .limits .dark-order) λ line.
+      subst (λ text. Makes (readLines line (linesOf text) (draft n r 0 0 (4 ∷ n ∷ r ∷ length (p .dark) ∷ p .dark) [] [])))
+      (append-nil (flatten (map layerText layers)))
+      (read-layers n r (base .n-most) (omega (arith, base .r-least)) (base .r-most) Makes layers [] line 0 0 (4 ∷ n ∷ r ∷ length (p .dark) ∷ p .dark) [] []
+      (g .rows) (g .limits .mu-limits) (omega (arith, g .limits .layer-each)) (omega (arith, g .limits .blocks-most))
+      λ line′ lines.
+      rw (
+        each,
+        read-end line′ n r (0 + sizes (headsOf layers)) ((4 ∷ n ∷ r ∷ length (p .dark) ∷ p .dark) ++ headNumbers (headsOf layers))
+            ([] ++ flatten (allRows layers)) lines (omega (arith, base .r-least)),
+      )
+      (pack-made (draft n r r (0 + sizes (headsOf layers)) ((4 ∷ n ∷ r ∷ length (p .dark) ∷ p .dark) ++ headNumbers (headsOf layers))
+      ([] ++ flatten (allRows layers)) lines) refl)))

@@ -1,0 +1,5 @@
+pub mod Told
+pub mod Lines
+pub mod Reading
+pub mod Printing
+pub mod Progress

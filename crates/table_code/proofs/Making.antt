@@ -1,0 +1,189 @@
+-- The pack's bytes and what its check says of them. Assumes nothing.
+use Prim.Native.Nat.{ℕ, zero, suc, _+_, _*_, _-_, _/_, _≤_, _<_}
+use native.Mathlib.Omega.{arith}
+use mathlib.Core.Path.{_≡_, refl, sym, _∙_, ap}
+use mathlib.Core.List.{List, [], _∷_, _++_, flatten, append-assoc}
+use lib.ListN.{length, take, drop, getD, length-append, length-drop, List·getD-eq-default}
+use lib.Seq.{length-take-le, take-at}
+use Rattle.lists.specs.Lists.{All, overStart}
+use Rattle.lists.proofs.Writing.{givenBack, write-part}
+use Rattle.refusal.specs.declared.Refusal.{Refusal}
+use Rattle.refusal.specs.Refusals.{numberOf, placeOf}
+use Rattle.refusal.specs.Checked.{Checked, accepted, refused}
+use Rattle.number.specs.Numbers.{largestNumber, numberBytes, formsOf}
+use Rattle.number.proofs.Laws.{numberBytes-length-le-four}
+use Rattle.layers.specs.Layers.{Located}
+use Rattle.pack.specs.Pack.{Pack, readPack}
+use Rattle.pack.specs.declared.PackHead.{PackHead}
+use Rattle.pack.specs.declared.PackAnswer.the-variants.{Accepted, Refused}
+use Rattle.pack.specs.declared.PackCheck.{PackCheck}
+use Rattle.pack.specs.Answers.{packChecked}
+use Rattle.table.specs.declared.Fault.{Fault}
+use Rattle.table.specs.declared.Progress.{Progress}
+use Rattle.table.specs.declared.Added.{Added}
+use Rattle.table.specs.declared.Added.the-variants.{To, Bad as NotAdded}
+use Rattle.table.specs.declared.Packed.{Packed}
+use Rattle.table.specs.declared.Packed.the-variants.{Bytes, Bad}
+use Rattle.table.specs.Told.{Told, good, bad, _>>=_}
+use Rattle.table.specs.Reading.{Draft, readText, draftBytes, lineAt, packIf, packDraft, packOf}
+use Rattle.table.specs.Progress.{Kept, Room, Grown, DraftFits, PackedIn, draftOf, packedAs, packMost}
+use Rattle.table.proofs.Made.{some-replica}
+
+-- numbers take at most four bytes each
+forms-length : (numbers : List ℕ) → All (λ v. v ≤ largestNumber) numbers → length (formsOf numbers) ≤ 4 * length numbers
+unfolding flatten
+forms-length [] h = omega arith
+forms-length (v ∷ numbers) h =
+    rw (length-append (numberBytes v) (formsOf numbers)) (omega (arith, numberBytes-length-le-four v (h .0), forms-length numbers (h .1)))
+
+-- the numbers' forms, then the blocks
+module _ (head rows out₀ : List ℕ) (fits : length (formsOf head) + length rows ≤ length out₀) {out : List ℕ} {at : ℕ}
+    (at-is : at ≡ length (formsOf head)) (out-is : out ≡ overStart (formsOf head) out₀) where
+  out-length : length out ≡ length out₀
+  out-length = ap length out-is ∙ simp (length-append, length-drop) (omega arith)
+
+  pub rows-fit : at + length rows ≤ length out
+  rows-fit = omega (arith, out-length)
+
+  pub both-written : {last : List ℕ} → last ≡ overStart rows (take (length out - at) (drop at out))
+      → givenBack out at last ≡ overStart (formsOf head ++ rows) out₀
+  both-written {last} is =
+      let first : out ≡ formsOf head ++ drop at out₀ = rw at-is out-is in
+      let size : at + length rows ≡ length (formsOf head ++ rows) = rw (length-append (formsOf head) rows, at-is) refl in
+      write-part (formsOf head) rows out₀ out last at (sym at-is) first is ∙ rw size refl
+
+-- the line at an index: 0 past the end
+module _ (lines : List ℕ) {offset : ℕ} (place first r : ℕ) (is : offset ≡ place - first) where
+  pub line-none : length lines ≤ offset / r → 0 ≡ getD lines ((place - first) / r) 0
+  line-none h = rw (← is) (sym (List·getD-eq-default lines 0 h))
+
+  pub line-some : getD lines (offset / r) 0 ≡ getD lines ((place - first) / r) 0
+  line-some = rw is refl
+
+-- what the check of the bytes says
+module _ (m : Checked (Located Pack)) {check : PackCheck} (is : check ≡ packChecked m) (size : ℕ) (lines : List ℕ) (first r : ℕ) where
+  pub made-accepted : {head : PackHead} → check .answer ≡ Accepted head → Bytes size ≡ packedAs m size lines first r
+  made-accepted {head} a = go m (ap (λ k. k .answer) is)
+    where
+      go : (m : Checked (Located Pack)) → check .answer ≡ packChecked m .answer → Bytes size ≡ packedAs m size lines first r
+      go (accepted file) e = refl
+      go (refused why) e = absurd (let z : _≡_ {A = ℕ} 0 1 = cc in omega arith)
+
+  pub made-refused : {why : Refusal} → check .answer ≡ Refused why
+      → Bad (record { number = numberOf why; place = getD lines ((placeOf why - first) / r) 0 }) ≡ packedAs m size lines first r
+  made-refused {why} a = go m (ap (λ k. k .answer) is)
+    where
+      go : (m : Checked (Located Pack)) → check .answer ≡ packChecked m .answer
+          → Bad (record { number = numberOf why; place = getD lines ((placeOf why - first) / r) 0 }) ≡ packedAs m size lines first r
+      go (accepted file) e = absurd (let z : _≡_ {A = ℕ} 0 1 = cc in omega arith)
+      go (refused other) e = let same : other ≡ why = cc in rw same refl
+
+  pub made-told : {why : Refusal} {number at place : ℕ} → check .answer ≡ Refused why → number ≡ numberOf why → at ≡ placeOf why
+      → place ≡ getD lines ((at - first) / r) 0 → Bad (record { number = number; place = place }) ≡ packedAs m size lines first r
+  made-told a number-is at-is place-is = rw (number-is, place-is, at-is) (made-refused a)
+
+-- the pack of a draft
+module _ (p : Progress) (numbers rows lines : List ℕ) (fits : DraftFits p numbers rows lines) where
+  count-within : p .count ≤ 269
+  count-within = let k = fits .kept in omega (arith, k .count-most, k .layers-most, k .r-most)
+
+  pub numbers-room : p .count ≤ length numbers
+  numbers-room = omega (arith, count-within, fits .room .for-numbers)
+
+  pub rows-room : p .place ≤ length rows
+  rows-room = omega (arith, fits .room .for-rows, fits .kept .place-most, fits .kept .blocks-most)
+
+  pub lines-room : p .blocks ≤ length lines
+  lines-room = omega (arith, fits .room .for-lines, fits .kept .blocks-most)
+
+  head-length : length (take (p .count) numbers) ≡ p .count
+  head-length = length-take-le (p .count) numbers numbers-room
+
+  rows-length : length (take (p .place) rows) ≡ p .place
+  rows-length = length-take-le (p .place) rows rows-room
+
+  pub draft-room : length (formsOf (take (p .count) numbers)) + length (take (p .place) rows) ≤ packMost
+  draft-room =
+      omega (
+        arith,
+        forms-length (take (p .count) numbers) (fits .kept .numbers-most),
+        head-length,
+        rows-length,
+        count-within,
+        fits .kept .place-most,
+        fits .kept .blocks-most,
+      )
+
+  abbrev made : List ℕ
+  made = formsOf (take (p .count) numbers) ++ take (p .place) rows
+
+  pub draft-packed : (first : ℕ) (out out₀ : List ℕ) → first ≡ length (formsOf (take (p .count) numbers))
+      → out ≡ overStart (formsOf (take (p .count) numbers) ++ take (p .place) rows) out₀ → (packed : Packed)
+      → packed ≡ packedAs (readPack (take (first + p .place) out)) (length (take (first + p .place) out)) (take (p .blocks) lines) first (p .r)
+      → PackedIn (packDraft (draftOf p numbers rows lines)) packed out₀ out
+  unfolding packDraft draftBytes lineAt
+  draft-packed first out out₀ first-is out-is packed is =
+      let bytes = formsOf (take (p .count) numbers) ++ take (p .place) rows in
+      let size : length bytes ≡ first + p .place = rw (length-append (formsOf (take (p .count) numbers)) (take (p .place) rows), rows-length, first-is) refl in
+      let whole : take (first + p .place) out ≡ bytes =
+      (rw out-is (take-at bytes (drop (length bytes) out₀) (first + p .place) size)) in
+      go (readPack bytes) (is ∙ rw (whole, first-is) refl)
+    where
+      go : (m : Checked (Located Pack))
+          → packed ≡ packedAs m (length made) (take (p .blocks) lines) (length (formsOf (take (p .count) numbers))) (p .r)
+          → PackedIn (packIf (draftOf p numbers rows lines) m) packed out₀ out
+      go (accepted file) e = rw e (refl, out-is)
+      go (refused why) e = rw e refl
+
+  -- the same in the code's words: its parts begin at 0
+  pub draft-asks : {size : ℕ} → packMost ≤ size → All (λ v. v ≤ largestNumber) (take (p .count - 0) (drop 0 numbers))
+      × (length (formsOf (take (p .count - 0) (drop 0 numbers))) + length (take (p .place - 0) (drop 0 rows)) ≤ size)
+  draft-asks h =
+      let count : p .count - 0 ≡ p .count = omega arith in
+      let place : p .place - 0 ≡ p .place = omega arith in
+      rw (count, place) (fits .kept .numbers-most, omega (arith, draft-room))
+
+  module _ {first : ℕ} (first-is : first ≡ length (formsOf (take (p .count - 0) (drop 0 numbers)))) where
+    forms-first : first ≡ length (formsOf (take (p .count) numbers))
+    forms-first = let count : p .count - 0 ≡ p .count = omega arith in rw count at first-is
+
+    pub draft-end : first + p .place ≤ packMost
+    draft-end = omega (arith, forms-first, draft-room, rows-length)
+
+    pub draft-told : (out out₀ : List ℕ) → out ≡ overStart (formsOf (take (p .count - 0) (drop 0 numbers)) ++ take (p .place - 0) (drop 0 rows)) out₀
+        → (packed : Packed) → packed ≡ packedAs (readPack (take (first + p .place - 0) (drop 0 out))) (length (take (first + p .place - 0) (drop 0 out)))
+        (take (p .blocks - 0) (drop 0 lines)) first (p .r) → PackedIn (packDraft (draftOf p numbers rows lines)) packed out₀ out
+    draft-told out out₀ out-is packed is =
+        let count : p .count - 0 ≡ p .count = omega arith in
+        let place : p .place - 0 ≡ p .place = omega arith in
+        let blocks : p .blocks - 0 ≡ p .blocks = omega arith in
+        let whole : first + p .place - 0 ≡ first + p .place = omega arith in
+        draft-packed first out out₀ forms-first (rw (count, place) at out-is) packed (rw (whole, blocks) at is)
+
+-- the pack of a text
+module _ (text numbers rows lines : List ℕ) (room : Room numbers rows lines) {added : Added} (grown : Grown (readText text) added numbers rows lines) where
+  pub text-bad : {e : Fault} → added ≡ NotAdded e → (out₀ out : List ℕ) → PackedIn (packOf text) (Bad e) out₀ out
+  unfolding packOf
+  text-bad {e} is out₀ out = go (readText text) (rw is at grown)
+    where
+      go : (told : Told Draft) → Grown told (NotAdded e) numbers rows lines → PackedIn (told >>= packDraft) (Bad e) out₀ out
+      go (good d) g = absurd g
+      go (bad f) g = g
+
+  pub text-fits : {p : Progress} → added ≡ To p → DraftFits p numbers rows lines
+  text-fits {p} is = go (readText text) refl (rw is at grown)
+    where
+      go : (told : Told Draft) → readText text ≡ told → Grown told (To p) numbers rows lines → DraftFits p numbers rows lines
+      go (good d) e g =
+          let some : 0 < d .r = some-replica text e in
+          record { kept = g .1; room = room; some-r = rw (← g .0) at some }
+      go (bad f) e g = absurd g
+
+  pub text-packed : {p : Progress} → added ≡ To p → (packed : Packed) (out₀ out : List ℕ)
+      → PackedIn (packDraft (draftOf p numbers rows lines)) packed out₀ out → PackedIn (packOf text) packed out₀ out
+  unfolding packOf
+  text-packed {p} is packed out₀ out made = go (readText text) (rw is at grown)
+    where
+      go : (told : Told Draft) → Grown told (To p) numbers rows lines → PackedIn (told >>= packDraft) packed out₀ out
+      go (good d) g = rw (← g .0) made
+      go (bad f) g = absurd g

@@ -1,0 +1,4 @@
+pub mod Refusals
+pub mod Decimal
+pub mod Digits
+pub mod Numbers
