@@ -1,4 +1,4 @@
-"""Counts the instructions of single calls of `ask`, `commit` and `page`, ours and the baseline's.
+"""Counts the instructions of single calls of `check`, `plan`, `ask`, `commit` and `page`, ours and the baseline's.
 
     python3 bench/calls.py OURS BASELINE [--only TEXT]
 
@@ -6,7 +6,8 @@ OURS has the test program that `rt check vectors_test` builds (target/bin), BASE
 test program: a file of many vectors less one of a single vector, and less the same of `read_number` lent an output as long that is to
 be left as it was, which is what the test program itself takes to fill its slices and to compare as many bytes. The baseline's are
 many turns less one.
-Instructions are callgrind's, on the inputs `plan-*` of inputs.py, of `page` on `check-*`; the check of the pack or placement is in both.
+Instructions are callgrind's, on the inputs `check-*` and `plan-*` of inputs.py; the check of the pack or placement is in both. `check` and
+`plan` are the programs' replies, with no process's start in them.
 """
 import argparse
 import sys
@@ -18,7 +19,7 @@ sys.path.insert(0, str(REPOSITORY / "reference"))
 
 from cabinet_page import page  # noqa: E402
 from committing import ask, commit  # noqa: E402
-from document01 import Refused, plan, read_number  # noqa: E402
+from document01 import Refused, check_reply, plan, plan_reply, read_number  # noqa: E402
 from inputs import inputs  # noqa: E402
 from run import callgrind, words_for  # noqa: E402
 from script import FILLS, Script  # noqa: E402
@@ -92,6 +93,17 @@ def page_measured(words, base, folder, name, data):
     print(f"| `page` of `{name}` | {mine:,.0f} | {theirs:,.0f} | {mine / theirs:.2f} |", flush=True)
 
 
+def reply_measured(words, base, folder, name, data):
+    """The reply of the program that the input's name begins with."""
+    call, source = name.split("-")[0], folder / "input"
+    source.write_bytes(data)
+    text, room, work = (check_reply(data), 200, 0) if call == "check" else (plan_reply(data), 20_928, 20_485)
+    mine = ours(words, folder, data, lambda to: to.call(f"{call}_reply", [], [0, len(text)], work=work, free=work, room=room, written=text))
+    mine -= ours(words, folder, data, lambda to: unread(to, room, len(text)))
+    theirs = (callgrind(base + [call, str(1 + TURNS)], source) - callgrind(base + [call, "1"], source)) / TURNS
+    print(f"| `{name}` | {mine:,.0f} | {theirs:,.0f} | {mine / theirs:.2f} |", flush=True)
+
+
 def main():
     options = argparse.ArgumentParser(description=__doc__.splitlines()[0])
     options.add_argument("ours", type=Path)
@@ -103,6 +115,8 @@ def main():
     print("| call | ours, instructions | tuned | ratio |\n|---|---|---|---|")
     with tempfile.TemporaryDirectory() as folder:
         for name, data in inputs():
+            if name.startswith(("check-", "plan-")) and given.only in name:
+                reply_measured(words, base, Path(folder), name, data)
             if name.startswith("plan-") and given.only in name:
                 measured(words, base, Path(folder), name, data)
             if name in PAGES and given.only in name:

@@ -93,6 +93,12 @@ def check_inputs(draw):
         yield f"check-b{b}", placement(draw, NODES, 5, 8, even_sizes(b, 5))
 
 
+def few_inputs(draw):
+    """Rows of 16 nodes, all in one layer."""
+    for x in range(1, 4):
+        yield f"check-n16-layer{x}", placement(draw, 16, 5, 8, [MOST if y == x else 0 for y in range(5)])
+
+
 def load_inputs(draw):
     """Rows in layer 0 alone, of few nodes and of many: the rows' order, the nodes' counts for the packing test and for the line."""
     for n, k in (7, 6), (NODES, 8):
@@ -172,6 +178,7 @@ def inputs():
     yield from dark_inputs(random.Random(33))
     yield from join_inputs(random.Random(34))
     yield from feeder_inputs(random.Random(35))
+    yield from few_inputs(random.Random(36))
 
 
 def main(folder):

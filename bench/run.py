@@ -1,13 +1,14 @@
 """Runs two folders of programs on the benchmark's inputs and prints how they compare, ours divided by the baseline's.
 
     python3 bench/run.py OURS BASELINE [--check NAME] [--plan NAME] [--join NAME] [--base-check NAME] [--base-plan NAME]
-                           [--base-join NAME] [--runs N] [--only TEXT]
+                           [--base-join NAME] [--runs N] [--only TEXT] [--net]
 
 OURS has programs built by `rt` (target/bin), BASELINE those of cargo (bench/baseline/target/release). Each input is given
 to both in turn, N times; a run is one whole process, its start included, and the two replies must be equal. The table has
 the medians of user time and of user and system time together (of a process shorter than a clock tick the kernel often
 counts all as one of the two), the instructions counted by callgrind, and those of `perf stat` where the machine counts
-them. A column that can't be had here is left out.
+them. A column that can't be had here is left out. With --net what a run on an empty input takes, made in the same turns, is taken
+off each number.
 """
 import argparse
 import os
@@ -82,21 +83,23 @@ def perf(words, source):
     return counted(command + words, source, r"^(\d+),.*instructions")
 
 
-def timed(pair, source, runs):
-    """The medians of both programs' times: of user time, and of all."""
-    times = [[], []]
+def timed(pair, source, runs, net):
+    """The medians of both programs' times: of user time, and of all; less those of an empty input where `net` is."""
+    times, starts = [[], []], [[], []]
     with tempfile.TemporaryDirectory() as folder:
         replies = [os.path.join(folder, name) for name in ("ours", "baseline")]
         for _ in range(runs):
-            for words, reply, taken in zip(pair, replies, times):
+            for words, reply, taken, start in zip(pair, replies, times, starts):
+                start.append(run(words, os.devnull, reply) if net else (0, 0))
                 taken.append(run(words, source, reply))
         ours, base = (Path(reply).read_bytes() for reply in replies)
     if ours != base:
         sys.exit(f"{Path(source).name}: the replies differ: {ours[:60]!r} and {base[:60]!r}")
-    return [[1e6 * statistics.median(both[i] for both in taken) for taken in times] for i in range(2)]
+    middle = [[[1e6 * statistics.median(both[i] for both in taken) for taken in which] for i in range(2)] for which in (times, starts)]
+    return [[took - began for took, began in zip(*rows)] for rows in zip(*middle)]
 
 
-def table(programs, folder, runs, only):
+def table(programs, folder, runs, only, net):
     counters = {"callgrind Ir": callgrind, "perf instr": perf}
     sources = []
     for name, data in inputs():
@@ -112,8 +115,8 @@ def table(programs, folder, runs, only):
         name = Path(source).name
         if only in name:
             pair = programs[name.split("-")[0]]
-            rows = timed(pair, source, runs)
-            rows += [[count(words, source) for words in pair] for count in counters.values()]
+            rows = timed(pair, source, runs, net)
+            rows += [[count(words, source) - (count(words, os.devnull) if net else 0) for words in pair] for count in counters.values()]
             cells = [f"{ours:12,.0f} {base:12,.0f} {ours / base if base else 0:7.2f}" for ours, base in rows]
             print(" | ".join([f"{name:16}"] + cells), flush=True)
 
@@ -130,6 +133,7 @@ def main():
     options.add_argument("--base-join", default="join", help="the baseline's program that joins three packs")
     options.add_argument("--runs", type=int, default=11)
     options.add_argument("--only", default="", help="only inputs with this text in their names")
+    options.add_argument("--net", action="store_true", help="less what a run on an empty input takes")
     given = options.parse_args()
     nine = {name: data for name, data in inputs() if name.endswith("-nine")}
     programs = {kind: [words_for((given.ours / ours).resolve(), nine[f"{kind}-nine"]),
@@ -137,7 +141,7 @@ def main():
                 for kind, ours, base in [("check", given.check, given.base_check), ("plan", given.plan, given.base_plan),
                                          ("join", given.join, given.base_join)]}
     with tempfile.TemporaryDirectory() as folder:
-        table(programs, folder, given.runs, given.only)
+        table(programs, folder, given.runs, given.only, given.net)
 
 
 if __name__ == "__main__":

@@ -1,8 +1,8 @@
 // Copying bytes, and writing blocks as rows.
 ghost use mathlib.Core.Path.{_≡_};
-ghost use Prim.Native.Nat.{_+_, _*_, _%_, _≤_, _<_};
+ghost use Prim.Native.Nat.{_+_, _*_, _≤_, _<_, min};
 ghost use mathlib.Core.List.{_++_, flatten};
-ghost use lib.ListN.{length, drop};
+ghost use lib.ListN.{length, take, drop};
 ghost use Rattle.lists.specs.Lists.{overStart};
 ghost use Rattle.packing.specs.Rows.{rowsAt, repeated};
 
@@ -18,19 +18,26 @@ pub fn copy_bytes(out: &mut [u8], bytes: &[u8])
     }
 }
 
-// The number of the block that follows: after the last of m blocks the first one.
-fn next_block(block: usize, m: usize) -> usize
-    requires { ⌜ block < m ⌝ }
-    ensures { λ next. ⌜ next ≡ (block + 1) % m ⌝ }
+fn smaller(a: usize, b: usize) -> usize
+    ensures { λ r. ⌜ r ≡ min a b ⌝ }
 {
-    let next = block + 1;
-    if next < m {
-        return next;
-    }
-    0
+    if a <= b { a } else { b }
 }
 
-// Writes c rows of r bytes to the start of `out`. Row j is block j mod m of the m blocks.
+// Writes the first `count` bytes of `out` once more, at place `to`.
+fn copy_start(out: &mut [u8], to: usize, count: usize)
+    requires { ⌜ (count ≤ to) × (to + count ≤ length (now out)) ⌝ }
+    ensures { λ _. ⌜ now (out .exit) ≡ take to (now (out .entry)) ++ take count (now (out .entry)) ++ drop (to + count) (now (out .entry)) ⌝ }
+{
+    let mut i: usize = 0;
+    while i < count {
+        out[to + i] = out[i];
+        i += 1;
+    }
+}
+
+// Writes c rows of r bytes to the start of `out`. Row j is block j mod m of the m blocks: the blocks are written once, and then, as
+// what stands there is whole copies of them, as much of it as there is, again and again.
 pub fn write_rows(out: &mut [u8], blocks: &[u8], m: usize, r: usize, c: usize)
     requires { ⌜ c * r ≤ length (now out) ⌝ }
     requires { ⌜ m * r ≤ length (now blocks) ⌝ }
@@ -39,15 +46,15 @@ pub fn write_rows(out: &mut [u8], blocks: &[u8], m: usize, r: usize, c: usize)
         ⌜ now (out .exit)
         ≡ flatten (repeated (rowsAt r m (now (blocks .entry))) c) ++ drop (c * r) (now (out .entry)) ⌝ }
 {
-    let mut written: usize = 0;
-    let mut to: usize = 0;
-    let mut block: usize = 0;
+    let once = smaller(m, c);
+    let end = once * r;
+    copy_bytes(out, &blocks[0..end]);
+    let mut written = once;
     while written < c {
-        let from = block * r;
-        let end = from + r;
-        copy_bytes(&mut out[to..], &blocks[from..end]);
-        to += r;
-        block = next_block(block, m);
-        written += 1;
+        let more = smaller(written, c - written);
+        let to = written * r;
+        let count = more * r;
+        copy_start(out, to, count);
+        written += more;
     }
 }

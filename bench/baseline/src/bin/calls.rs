@@ -1,11 +1,12 @@
-//! Asks or commits the order on standard input, or prints the page of the placement there, again and again, so that the instructions of
-//! one call can be counted: `calls ask N`, `calls commit N` or `calls page N`. Committed are the counts that asking gives.
+//! Makes one call on standard input again and again, so that what it takes can be told from a process's start: `calls CALL N`, where
+//! CALL is `check` or `page` of a placement, or `plan`, `ask` or `commit` of an order. Committed are the counts that asking gives.
 use std::hint::black_box;
 
 use baseline::crowding::Counter;
 use baseline::number::Reader;
 use baseline::page::page;
 use baseline::split::by_recurrence;
+use baseline::{check_reply, plan_reply};
 
 fn orders(call: &str, turns: usize, input: &[u8]) {
     let mut head = Reader::new(input);
@@ -28,10 +29,12 @@ fn main() {
     let words: Vec<String> = std::env::args().collect();
     let turns: usize = words[2].parse().unwrap();
     let input = baseline::read_input();
-    if words[1] != "page" {
-        return orders(&words[1], turns, &input);
-    }
     for _ in 0..turns {
-        black_box(page::<Counter>(black_box(&input)).ok().unwrap());
+        match words[1].as_str() {
+            "check" => drop(black_box(check_reply::<Counter>(black_box(&input)))),
+            "plan" => drop(black_box(plan_reply::<Counter>(black_box(&input), by_recurrence))),
+            "page" => drop(black_box(page::<Counter>(black_box(&input)).ok().unwrap())),
+            call => return orders(call, turns, &input),
+        }
     }
 }

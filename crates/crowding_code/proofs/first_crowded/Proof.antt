@@ -2,21 +2,26 @@
 -- number is the answer. Assumes nothing.
 use Prim.Native.Nat.{_<_}
 use mathlib.Core.Path.{_≡_, sym, ap, _∙_}
+use Rattle.lists.proofs.Alls.{getD-all}
 use Rattle.lists.proofs.Tests.{T-true}
 use Rattle.packing.specs.Rows.{rowsAt, firstCrowded}
 use Rattle.packing.specs.Answers.{rowFound}
-use Rattle.packing.proofs.RowsAt.{length-rowsAt}
+use Rattle.packing.proofs.RowsAt.{length-rowsAt, all-rowsAt}
 use Rattle.crowding.specs.Tails.{rowNumber}
 use Rattle.crowding.proofs.Crowded.{first-none-of-few, first-none-of-loads, first-crowded-below, found-row, found-none}
 use Rattle.crowding.proofs.Order.{length-taken, taken-ascends, taken-first}
+use Rattle.crowding_pairs.proofs.Pairs.{first-none-of-pairs}
 use native.Mathlib.Omega.{arith}
 use borrow.Author.Needs.{needs}
 use Rattle.crowding_code.proofs.first_crowded.Statement.{statement}
 use Rattle.crowding_code.proofs.first_crowded.Tie as tie
 
--- where few loads are ruled out, or not; and where a row number is found
+-- where few loads and few pairs are ruled out, or not; and where a row number is found
+abbrev paired : tie.After-least-crowded → tie.After-few-pairs
+paired c = c .before .before .before
+
 abbrev told : tie.After-least-crowded → tie.After-few-loads
-told c = c .before .before .before
+told c = paired c .before .before
 
 abbrev start : tie.After-few-loads → tie.Start
 start c = c .before .before .before
@@ -52,6 +57,24 @@ returns-2 c =
     (first-none-of-loads (a .r) (a .c) (a .rows .now) (λ i. called .before .before .shared-slice-known .given i .fits) (a .x) (a .bound)
     (T-true few)))
 
+few-pairs-requires : tie.Need-few-pairs-requires
+few-pairs-requires c κs =
+    let pre = start (c .before) .pre in
+    (pre .0 .0, pre .0 .1, pre .0 .3)
+
+returns-3 : tie.Need-returns-3
+returns-3 c =
+    let called = c .before in
+    let s = start (called .before .before) in
+    let a = s .args in
+    let few = sym (called .few-pairs .ensures) ∙ c .if3 .taken in
+    sym
+    (ap rowFound
+    (first-none-of-pairs (rowsAt (a .r) (a .c) (a .rows .now)) (s .pre .1) (a .x) (a .bound)
+    (all-rowsAt (λ v. v < 256) (a .r) (a .c) (a .rows .now)
+    (getD-all (λ v. v < 256) 0 (a .rows .now) (λ i lt. called .before .before .before .before .shared-slice-known .given i .fits)))
+    (T-true few)))
+
 mul-end : tie.Need-mul-end
 mul-end c = search needs
 
@@ -66,7 +89,7 @@ part-least-crowded-end c = search needs
 
 least-crowded-requires : tie.Need-least-crowded-requires
 least-crowded-requires c κs =
-    let s = start (c .before .before) in
+    let s = start (c .before .before .before .before) in
     let a = s .args in
     let pre = s .pre in
     let some : 0 < a .r = omega (arith, pre .0) in
@@ -77,20 +100,20 @@ least-crowded-requires c κs =
       order = taken-ascends (a .r) (a .c) (a .rows .now) (pre .0 .3) (pre .1) some;
     }
 
-returns-3 : tie.Need-returns-3
-returns-3 c =
+returns-4 : tie.Need-returns-4
+returns-4 c =
     let called = c .before .before in
     let a = start (told called) .args in
     found-row (called .least-crowded .result .0) (firstCrowded (a .x) (a .bound) (rowsAt (a .r) (a .c) (a .rows .now))) (first called)
-    (c .if3 .taken)
+    (c .if4 .taken)
 
-returns-4 : tie.Need-returns-4
-returns-4 c =
+returns-5 : tie.Need-returns-5
+returns-5 c =
     let called = c .before .before in
     let s = start (told called) in
     let a = s .args in
     let rows = rowsAt (a .r) (a .c) (a .rows .now) in
-    found-none (called .least-crowded .result .0) (firstCrowded (a .x) (a .bound) rows) (first called) (c .if3 .left)
+    found-none (called .least-crowded .result .0) (firstCrowded (a .x) (a .bound) rows) (first called) (c .if4 .left)
     (λ j e. omega (arith, first-crowded-below (a .x) (a .bound) rows j e, length-rowsAt (a .r) (a .c) (a .rows .now), s .pre .0))
 
 pub first-crowded-spec : {M : Type 1} → statement M
@@ -100,10 +123,12 @@ first-crowded-spec =
     returns
     few-loads-requires
     returns-2
+    few-pairs-requires
+    returns-3
     mul-end
     sub-least-crowded
     part-least-crowded-start
     part-least-crowded-end
     least-crowded-requires
-    returns-3
-    returns-4)
+    returns-4
+    returns-5)

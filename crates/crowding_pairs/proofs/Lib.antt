@@ -1,0 +1,4 @@
+pub mod Cells
+pub mod Turns
+pub mod Pairs
+pub mod Chained

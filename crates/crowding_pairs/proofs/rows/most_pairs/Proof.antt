@@ -1,0 +1,56 @@
+-- `crowding_pairs::rows::most_pairs` meets its contract: the largest cell of a table that was all zeros. Assumes nothing.
+use Prim.Native.Nat.{ℕ, _<_}
+use native.Mathlib.Omega.{arith}
+use mathlib.Core.Path.{_∙_}
+use lib.ListN.{length-replicate}
+use borrow.Author.Needs.{needs}
+use Rattle.lists.proofs.Alls.{getD-all}
+use Rattle.packing.specs.Rows.{rowsAt}
+use Rattle.crowding.proofs.Follow.{at-most-zero}
+use Rattle.crowding_pairs.proofs.Turns.{most-is}
+use Rattle.crowding_pairs.proofs.rows.most_pairs.Statement.{statement}
+use Rattle.crowding_pairs.proofs.rows.most_pairs.Tie as tie
+
+slice-aggregate-count-all : tie.Need-slice-aggregate-count-all
+slice-aggregate-count-all c = search needs
+
+count-all-requires : tie.Need-count-all-requires
+count-all-requires c κs =
+    let s = c .before .before in
+    record {
+      fit = s .pre;
+      empty = record {
+        below = getD-all (λ v. v < 256) 0 (s .args .rows .now) (λ i lt. c .before .shared-slice-known .given i .fits);
+        bytes = omega arith;
+        cells = search needs;
+        none = at-most-zero 65536;
+      };
+    }
+
+slice-aggregate-most-of : tie.Need-slice-aggregate-most-of
+slice-aggregate-most-of c = search needs
+
+most-of-requires : tie.Need-most-of-requires
+most-of-requires c κs = search needs
+
+cast-result : tie.Need-cast-result
+cast-result c = search needs
+
+returns : tie.Need-returns
+returns c =
+    let a = c .before .before .before .before .before .before .args in
+    let counted = c .before .before .before .count-all in
+    c .most-of .ensures
+    ∙ most-is 256 (rowsAt (a .r) (a .c) (a .rows .now)) (counted .last .1 .1 .1 .1 .0) (counted .ensures .same ∙ length-replicate {A = ℕ} 65536 0)
+    (λ p. omega (arith, counted .ensures .cell p, at-most-zero 65536 p))
+
+pub most-pairs-spec : {M : Type 1} → statement M
+most-pairs-spec =
+    tie.close
+    (tie.spec
+    slice-aggregate-count-all
+    count-all-requires
+    slice-aggregate-most-of
+    most-of-requires
+    cast-result
+    returns)
