@@ -7,7 +7,7 @@ export RT_JOBS="${RT_JOBS:-8}"
 . .ci/machine
 names='check plan'
 if [ "$1" = all ]; then
-    names='check plan pack table curve worst page ask commit operator join rounds replay'
+    names='check plan pack table curve worst page ask commit operator certify join rounds replay'
 fi
 mkdir -p target/programs
 log=target/demo.log

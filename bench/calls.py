@@ -1,4 +1,4 @@
-"""Counts the instructions of single calls of `check`, `plan`, `ask`, `commit` and `page`, ours and the baseline's.
+"""Counts the instructions of single calls of `check`, `plan`, `ask`, `commit`, `page` and `certify`, ours and the baseline's.
 
     python3 bench/calls.py OURS BASELINE [--only TEXT]
 
@@ -6,8 +6,8 @@ OURS has the test program that `rt check vectors_test` builds (target/bin), BASE
 test program: a file of many vectors less one of a single vector, and less the same of `read_number` lent an output as long that is to
 be left as it was, which is what the test program itself takes to fill its slices and to compare as many bytes. The baseline's are
 many turns less one.
-Instructions are callgrind's, on the inputs `check-*` and `plan-*` of inputs.py; the check of the pack or placement is in both. `check` and
-`plan` are the programs' replies, with no process's start in them.
+Instructions are callgrind's, on the inputs `check-*` and `plan-*` of inputs.py, of `certify` on the bare rows of the former; the check of the
+pack, placement or rows is in both. `check` and `plan` are the programs' replies, with no process's start in them.
 """
 import argparse
 import sys
@@ -18,8 +18,9 @@ REPOSITORY = Path(__file__).resolve().parent.parent
 sys.path.insert(0, str(REPOSITORY / "reference"))
 
 from cabinet_page import page  # noqa: E402
+from certify import bare_bytes, certify  # noqa: E402
 from committing import ask, commit  # noqa: E402
-from document01 import Refused, check_reply, plan, plan_reply, read_number  # noqa: E402
+from document01 import ROOM, Refused, check_placement, check_reply, plan, plan_reply, read_number  # noqa: E402
 from inputs import inputs  # noqa: E402
 from run import callgrind, words_for  # noqa: E402
 from script import FILLS, Script  # noqa: E402
@@ -93,6 +94,19 @@ def page_measured(words, base, folder, name, data):
     print(f"| `page` of `{name}` | {mine:,.0f} | {theirs:,.0f} | {mine / theirs:.2f} |", flush=True)
 
 
+def certify_measured(words, base, folder, name, data):
+    p = check_placement(data)
+    rows, source = [row for _, layer in p["layers"] for row in layer], folder / "rows"
+    bare = bare_bytes(p["n"], p["r"], p["dark"], p["s"], p["k"], rows)
+    source.write_bytes(bare)
+    out, figure, counts = certify(bare)
+    room = ROOM + p["b"] * p["r"]
+    mine = ours(words, folder, bare, lambda to: to.call("certify", [], [0, len(out), figure, *counts], room=room, written=out))
+    mine -= ours(words, folder, bare, lambda to: unread(to, room, len(out)))
+    theirs = (callgrind(base + ["certify", str(1 + TURNS)], source) - callgrind(base + ["certify", "1"], source)) / TURNS
+    print(f"| `certify` of `{name}` | {mine:,.0f} | {theirs:,.0f} | {mine / theirs:.2f} |", flush=True)
+
+
 def reply_measured(words, base, folder, name, data):
     """The reply of the program that the input's name begins with."""
     call, source = name.split("-")[0], folder / "input"
@@ -121,6 +135,7 @@ def main():
                 measured(words, base, Path(folder), name, data)
             if name in PAGES and given.only in name:
                 page_measured(words, base, Path(folder), name, data)
+                certify_measured(words, base, Path(folder), name, data)
 
 
 if __name__ == "__main__":

@@ -5,6 +5,7 @@
 import sys
 from pathlib import Path
 
+from bare import BARE_DARK
 from logs import replay_reply
 from replies import REPLIES, join_reply
 from seven import DARK_P, FED_NINE, NINE, P
@@ -18,6 +19,7 @@ RUNS = {
     "plan": ((), bytes([2, 3, 9]) + P),
     "ask": (("2", "3", "9"), P),
     "commit": (("2", "3", "9", "9", "0", "0", "0", "0"), P),
+    "certify": ((), BARE_DARK),
     "operator": (("2", "3", "9", "4096"), P),
 }
 FILES = {"first.pack": P, "second.pack": DARK_P, "third.pack": P}

@@ -1,4 +1,4 @@
-"""Numbers, refusals, and what packs and placements begin with: document 01, with document 02's requests (b), (h)
+"""Numbers, refusals, and what packs, placements and bare rows begin with: document 01, with document 02's requests (b), (h)
 and (n).
 
 Written from the documents alone. Standard library only.
@@ -73,8 +73,8 @@ def read_kind(data, kinds):
 
 # --- what packs and placements begin with
 
-# the kinds that list the nodes out of service after r (document 02 (h), (n))
-LISTED = (4, 5, 6)
+# the kinds that list the nodes out of service after r (document 02 (h), (n); bare rows as kind 5)
+LISTED = (4, 5, 6, 7)
 
 
 def read_base(data, kinds):

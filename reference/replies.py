@@ -3,6 +3,7 @@ its own form. A reply is a function of the arguments, a list of bytes, and of th
 import re
 
 from cabinet_page import page
+from certify import certify
 from chunks import join
 from committing import ask, commit
 from document01 import Refused, check_placement, curve, plan
@@ -85,6 +86,7 @@ REPLIES = {
     "ask": program(3, order_number, offered_line),
     "commit": program(8, lambda index: (12, index) if index < 3 else (16, 0),
                       lambda data, s, k, b, *counts: commit(data, s, k, b, list(counts))[0]),
+    "certify": program(0, order_number, lambda data: certify(data)[0]),
     "operator": program(4, lambda index: (12, index) if index < 2 else (14, 0),
                         lambda data, s, k, wish, other: plan_operator(data, s, k, wish, other)[0]),
 }

@@ -14,6 +14,7 @@ import tempfile
 from collections import Counter
 from pathlib import Path
 
+from bare import BARE_DARK, BARE_SEVEN, random_bare
 from cases import damaged, of_kind, random_order, random_pack, small_fed
 from document01 import numbers
 from programs import kind
@@ -71,6 +72,9 @@ def by_hand(runs):
             runs.compare(name, ["1"], data, REPLIES[name]([b"1"], data))
         for q in range(5):
             runs.run("rounds", (q,), data)
+    for data in (BARE_SEVEN, BARE_DARK, b"", BARE_SEVEN[:-1], BARE_DARK + b"x", NINE, P):
+        runs.compare("certify", [], data, REPLIES["certify"]([], data))
+        runs.compare("certify", ["1"], data, REPLIES["certify"]([b"1"], data))
     orders = {
         "plan": ((2, 3, 9), (0, 3, 9), (2, 7, 9), (2, 3, 4_096), (2, 3, 4_097)),
         "ask": ((2, 3, 9), (2, 1, 9), (4, 4, 9)),
@@ -108,6 +112,11 @@ def some(runs, draw, folder):
         paths.append(str(path))
     runs.compare("join", paths, b"", join_reply(files))
     runs.compare("join", [], pack, join_reply([pack]))
+    bare = random_bare(draw, draw.choice([4, 60, 400]))
+    certified = runs.run("certify", (), bare)
+    runs.run("certify", (), damaged(draw, bare))
+    runs.odd(draw, "certify", (), bare)
+    runs.run("page", (), certified)
     if placement.startswith(b"refused"):
         return
     for data in (placement, of_kind(draw.choice((2, 3)), placement), damaged(draw, placement), small_fed(draw)):

@@ -5,7 +5,8 @@ from document01 import Refused
 
 CALLS = {"read_number": 4, "read_within": 5, "check_pack": 6, "check_placement": 7, "first_crowded": 8, "write_number": 9,
          "plan": 10, "row_walk": 11, "check_reply": 12, "plan_reply": 13, "curve": 14, "join": 15,
-         "plan_operator": 16, "ask": 17, "commit": 18, "worst_case": 19, "rounds": 20, "replay": 21, "page": 22}
+         "plan_operator": 16, "ask": 17, "commit": 18, "worst_case": 19, "rounds": 20, "replay": 21, "page": 22,
+         "certify": 23}
 WRONG = 22  # one more than the highest refusal's number
 LARGEST_64 = 2 ** 64 - 1
 FILLS = (170, 85)

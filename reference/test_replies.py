@@ -5,6 +5,7 @@ from pathlib import Path
 
 sys.path.insert(0, str(Path(__file__).resolve().parent))
 
+from bare import BARE_SEVEN
 from replies import REPLIES, join_reply
 from seven import FED_NINE, NINE, NINES, P, SEVEN
 
@@ -56,6 +57,15 @@ class Replies(unittest.TestCase):
         self.assertEqual(say("plan", P, "2", "x", "y", "9"), b"refused 12 1\n")
         self.assertEqual(say("plan", b"", "2", "3", "9"), b"refused 1 0\n")
         self.assertEqual(say("plan", P, "2", "3", "999999999"), b"refused 12 2\n")
+
+    def test_certify(self):
+        """Document 01's seven rows of layer 1: all of them there, lambda 1, figure 4."""
+        self.assertEqual(say("certify", BARE_SEVEN), bytes([5, 7, 3, 0, 2, 3, 7, 4, 0, 0, 1, 7]) + BARE_SEVEN[7:])
+        self.assertEqual(say("certify", BARE_SEVEN[:-1]), b"refused 1 27\n")
+        self.assertEqual(say("certify", BARE_SEVEN + b"x"), b"refused 5 28\n")
+        self.assertEqual(say("certify", NINE), b"refused 3 0\n")
+        self.assertEqual(say("certify", b""), b"refused 1 0\n")
+        self.assertEqual(say("certify", BARE_SEVEN, "2"), b"refused 22 0\n")
 
     def test_ask_and_commit(self):
         self.assertEqual(say("ask", P, "2", "3", "9"), b"offered 5 2 7 0 0 0 1 1 0 0 0\n")

@@ -13,11 +13,13 @@ from pathlib import Path
 
 sys.path.insert(0, str(Path(__file__).resolve().parent.parent / "packings"))
 
+import bare  # noqa: E402
 import chunks  # noqa: E402
 import limits  # noqa: E402
 import document01 as reference  # noqa: E402
 from cabinet_page import page  # noqa: E402
 from cases import check_inputs, of_kind, padded, plan_inputs, random_order, random_pack, random_placement, random_rows, seven_rows, small_fed, small_placement, two_node_placement  # noqa: E402
+from certify import bare_bytes, certify, check_bare  # noqa: E402
 from check_packings import pack_bytes  # noqa: E402
 from committing import ask, commit, five  # noqa: E402
 from constructions import catalogue  # noqa: E402
@@ -136,6 +138,17 @@ def call_commit(script, s, k, b, counts, room):
         script.call("commit", [s, k, b], [e.number, e.place], room=room, more=counts)
         return
     script.call("commit", [s, k, b], [0, len(out), figure, *counts], room=room, written=out, more=counts)
+
+
+def call_certify(script, room):
+    """What was written, or None."""
+    try:
+        out, figure, counts = certify(script.input, room)
+    except Refused as e:
+        script.call("certify", [], [e.number, e.place], room=room)
+        return None
+    script.call("certify", [], [0, len(out), figure, *counts], room=room, written=out)
+    return out
 
 
 def call_walk(script, more=0):
@@ -771,6 +784,41 @@ def commit_vectors(script):
             call_commit(script, s, k, b, shared, room_for(b, r) - draw.choice([0, 0, 0, 1]))
 
 
+def certify_vectors(script):
+    """Bare rows worked by hand, cut short at every length, with every byte of the head changed, and with each fault in each place; outputs
+    at their edges; random ones, and what was certified certified again, through the checker too."""
+    for data in bare.worked():
+        script.read(data)
+        for n in range(len(data) + 1):
+            script.part(0, n)
+            call_certify(script, OUTPUT_MOST if n % 2 else 0)
+        script.part(0, len(data))
+        file = check_bare(data)
+        room = room_for(file["b"], file["r"])
+        for less in (1, 0, room, -5):
+            call_certify(script, max(room - less, 0))
+    for data, head in ((bare.BARE_SEVEN, 7), (bare.BARE_DARK, 9)):
+        script.read(data)
+        for at in range(head):
+            for v in [*range(12), 127, 128, 129, 255]:
+                script.change(at, v)
+                call_certify(script, OUTPUT_MOST)
+            script.change(at, data[at])
+    for data in [*bare.limits(), *bare.faults()]:
+        script.read(data)
+        call_certify(script, OUTPUT_MOST)
+    for i, data in enumerate(bare.random_files()):
+        script.read(data)
+        out = call_certify(script, OUTPUT_MOST - (i % 3 == 0) * 30)
+        if out and i % 4 == 0:
+            p = reference.check_placement(out)
+            script.read(out)
+            call_check_placement(script)
+            call_certify(script, OUTPUT_MOST)
+            script.read(bare_bytes(p["n"], p["r"], p["dark"], p["s"], p["k"], [row for _, rows in p["layers"] for row in rows]))
+            call_certify(script, OUTPUT_MOST)
+
+
 def grouped_rows():
     """4,096 rows of five nodes. Row i has a node of each of five groups of 50: with a, b, c the digits of i to base 17, lowest
     first, group k's is 50 k + (a + k b + k² c) mod 17. So three nodes determine the row, and every three stand together in one
@@ -865,7 +913,7 @@ def padded_vectors(script):
 def script_of_all():
     script = Script()
     for vectors in (number_vectors, small_files, placement_vectors, curve_vectors, join_vectors, plan_vectors, operator_vectors, commit_vectors,
-                    worst_vectors, rounds_vectors, replay_vectors, page_vectors, padded_vectors, crowding_vectors, published_vectors):
+                    worst_vectors, rounds_vectors, replay_vectors, page_vectors, padded_vectors, crowding_vectors, published_vectors, certify_vectors):
         vectors(script)
     return script
 

@@ -1,6 +1,6 @@
 //! Packs and placements: heads, row order and loads, packing, the figure.
 
-use crate::crowding::PackingTest;
+use crate::crowding::{Counter, PackingTest};
 use crate::feeders::Feeders;
 use crate::number::{Reader, Refusal, refused};
 
@@ -16,7 +16,7 @@ pub struct Base {
     kind: usize,
     pub n: usize,
     pub r: usize,
-    /// The nodes out of service, ascending; kinds 4 to 6 list them.
+    /// The nodes out of service, ascending; kinds 4 to 7 list them.
     pub dark: Vec<u8>,
 }
 
@@ -107,6 +107,30 @@ impl Placement {
             return refused(8, figure_at);
         }
         Ok(Placement { n, r, s, k, b, figure, first, most, layers, feeders })
+    }
+}
+
+/// Bare rows, kind 7.
+pub struct Bare<'a> {
+    pub base: Base,
+    pub s: usize,
+    pub k: usize,
+    pub rows: &'a [u8],
+}
+
+impl<'a> Bare<'a> {
+    pub fn check(bytes: &'a [u8]) -> Result<Self, Refusal> {
+        let mut head = Reader::new(bytes);
+        let base = Base::read(&mut head, &[7])?;
+        let s = head.within(1, base.r)?;
+        let k = head.within(s, base.n - 1)?;
+        let b = head.within(1, 4096)?;
+        let first = head.at;
+        let rows = head.part(b * base.r)?;
+        head.end()?;
+        // No layer of b rows is crowded where b may stand together.
+        check_rows::<Counter>(rows, first, &base, None, &[Layer { bound: b, size: b }])?;
+        Ok(Bare { base, s, k, rows })
     }
 }
 

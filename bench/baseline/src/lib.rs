@@ -1,5 +1,6 @@
 //! The programs `check` and `plan` of documents 01 and 02 in plain Rust: the mark that the proved programs are measured against.
 
+pub mod certify;
 pub mod crowding;
 pub mod feeders;
 pub mod file;

@@ -24,3 +24,4 @@ pub mod RequestNWorked
 pub mod Starred
 pub mod RequestE
 pub mod RequestHPlans
+pub mod Certify

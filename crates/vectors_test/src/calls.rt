@@ -190,6 +190,7 @@ pub(crate) fn answer(
         18 => commit(given, input, out),
         19 => answers::worst(worst_code::worst_case(input, out)),
         22 => answers::wrote(page_code::page(input, out)),
+        23 => answers::plan_result(certify_code::certify(input, out)),
         _ => told(call, given, input),
     }
 }

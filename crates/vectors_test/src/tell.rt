@@ -2,7 +2,7 @@
 use libc::STDOUT_FILENO;
 
 // One more than the last call's number.
-const CALLS: usize = 23;
+const CALLS: usize = 24;
 
 // The kind of the vectors that do not agree: one more than the highest refusal's number.
 const WRONG: usize = 22;
@@ -71,7 +71,7 @@ fn tell_kind(kind: usize, counts: &[usize]) {
 pub(crate) fn tell_kinds(counts: &[usize]) {
     let mut kind: usize = 0;
     say(
-        b"\nkind read_number read_within check_pack check_placement first_crowded write_number plan row_walk check_reply plan_reply curve join plan_operator ask commit worst_case rounds replay page",
+        b"\nkind read_number read_within check_pack check_placement first_crowded write_number plan row_walk check_reply plan_reply curve join plan_operator ask commit worst_case rounds replay page certify",
     );
     while kind <= WRONG {
         tell_kind(kind, counts);

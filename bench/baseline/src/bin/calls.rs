@@ -1,7 +1,8 @@
 //! Makes one call on standard input again and again, so that what it takes can be told from a process's start: `calls CALL N`, where
-//! CALL is `check` or `page` of a placement, or `plan`, `ask` or `commit` of an order. Committed are the counts that asking gives.
+//! CALL is `check` or `page` of a placement, `certify` of bare rows, or `plan`, `ask` or `commit` of an order. Committed are the counts that asking gives.
 use std::hint::black_box;
 
+use baseline::certify::certify;
 use baseline::crowding::Counter;
 use baseline::number::Reader;
 use baseline::page::page;
@@ -34,6 +35,7 @@ fn main() {
             "check" => drop(black_box(check_reply::<Counter>(black_box(&input)))),
             "plan" => drop(black_box(plan_reply::<Counter>(black_box(&input), by_recurrence))),
             "page" => drop(black_box(page::<Counter>(black_box(&input)).ok().unwrap())),
+            "certify" => drop(black_box(certify(black_box(&input)).ok().unwrap())),
             call => return orders(call, turns, &input),
         }
     }

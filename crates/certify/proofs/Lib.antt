@@ -1,0 +1,12 @@
+pub mod Accepted
+pub mod Alone
+pub mod Answered
+pub mod Best
+pub mod Certified
+pub mod Highest
+pub mod Most
+pub mod Packed
+pub mod Shares
+pub mod Taken
+pub mod Worked
+pub mod Writing
