@@ -9,6 +9,7 @@ sys.path.insert(0, str(Path(__file__).resolve().parent))
 from document01 import Refused, check_pack, pack_bytes
 from table import make_pack, pack_reply, table_reply, table_text
 
+CRATES = Path(__file__).resolve().parent.parent / "crates"
 SEVEN = """# seven cabinets
 table 7 3
 mu 1
@@ -122,6 +123,13 @@ class Text(unittest.TestCase):
         text = table_text({"n": n, "r": r, "dark": [], "layers": layers})
         self.assertEqual(len(text), 12 + 5 * 8 + 4_096 * 21)
         self.assertEqual(len(table_text({"n": n, "r": r, "dark": list(range(n)), "layers": [(4_096, [])] * 5})), 12 + 3 + 910 + 1 + 40)
+
+
+class Files(unittest.TestCase):
+    def test_what_the_gate_runs_the_programs_on(self):
+        for name, reply in (("pack_main", pack_reply), ("table_main", table_reply)):
+            folder = CRATES / name
+            self.assertEqual(reply((folder / "stdin").read_bytes()), (folder / "stdout").read_bytes(), name)
 
 
 if __name__ == "__main__":
