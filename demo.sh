@@ -2,8 +2,6 @@
 # Proves and builds `check` and `plan`, or with the argument `all` every program, into target/programs, with a line for each crate; plans
 # nine records on seven cabinets, and checks the result.
 cd "$(dirname "$0")" || exit 2
-# A level of these crates has at most seven: all of them at once, so that none waits for the longest of four.
-export RT_JOBS="${RT_JOBS:-8}"
 . .ci/machine
 names='check plan'
 if [ "$1" = all ]; then

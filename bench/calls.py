@@ -111,8 +111,8 @@ def reply_measured(words, base, folder, name, data):
     """The reply of the program that the input's name begins with."""
     call, source = name.split("-")[0], folder / "input"
     source.write_bytes(data)
-    text, room, work = (check_reply(data), 200, 0) if call == "check" else (plan_reply(data), 20_928, 20_485)
-    mine = ours(words, folder, data, lambda to: to.call(f"{call}_reply", [], [0, len(text)], work=work, free=work, room=room, written=text))
+    text, room = (check_reply(data), 200) if call == "check" else (plan_reply(data), 20_928)
+    mine = ours(words, folder, data, lambda to: to.call(f"{call}_reply", [], [0, len(text)], room=room, written=text))
     mine -= ours(words, folder, data, lambda to: unread(to, room, len(text)))
     theirs = (callgrind(base + [call, str(1 + TURNS)], source) - callgrind(base + [call, "1"], source)) / TURNS
     print(f"| `{name}` | {mine:,.0f} | {theirs:,.0f} | {mine / theirs:.2f} |", flush=True)

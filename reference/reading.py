@@ -14,6 +14,15 @@ class Refused(Exception):
         self.place = place
 
 
+def refusal(call, *args):
+    """The number and place of the refusal that the call ends in, None where it gives a result."""
+    try:
+        call(*args)
+    except Refused as e:
+        return e.number, e.place
+    return None
+
+
 # --- numbers
 
 def number_bytes(v):

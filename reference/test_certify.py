@@ -9,16 +9,8 @@ sys.path.insert(0, str(Path(__file__).resolve().parent))
 
 from bare import BARE_DARK, BARE_SEVEN, random_bare
 from certify import bare_bytes, certify, check_bare, most_together, one_layer
-from document01 import RULES, Refused, check_placement, figure, numbers, together, worst_case
-from reading import base_numbers
-
-
-def refusal(call, *args):
-    try:
-        call(*args)
-    except Refused as e:
-        return e.number, e.place
-    return None
+from document01 import RULES, check_placement, figure, numbers, together, worst_case
+from reading import base_numbers, refusal
 
 
 def accepted(q, kind, x, bound):

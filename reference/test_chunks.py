@@ -11,18 +11,11 @@ sys.path.insert(0, str(Path(__file__).resolve().parent.parent / "packings"))
 from cases import random_pack
 from chunks import join, join_reply, joined, three_packs
 from constructions import GF2, GF3, affine, bose, projective_plane
-from document01 import Refused, check_pack, check_placement, pack_bytes, plan, together, worst_case
+from document01 import check_pack, check_placement, pack_bytes, plan, together, worst_case
+from reading import refusal
 from seven import DARK_P
 
 PROGRAM = Path(__file__).resolve().parent.parent / "crates" / "join_bench"
-
-
-def refusal(call, *args):
-    try:
-        call(*args)
-    except Refused as e:
-        return e.number, e.place
-    return None
 
 
 def pack(n, r, layers, dark=None):

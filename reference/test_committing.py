@@ -8,17 +8,10 @@ sys.path.insert(0, str(Path(__file__).resolve().parent))
 
 from cases import P, random_order, random_pack
 from committing import ask, commit, five
-from document01 import Refused, check_pack, check_placement, every_split, numbers, plan, worst_case
+from document01 import check_pack, check_placement, every_split, numbers, plan, worst_case
+from reading import refusal
 
 UPPER = numbers(1, 3, 2, 1, 0, 1, 1) + bytes([0, 1])  # one block, in layer 1
-
-
-def refusal(call, *args):
-    try:
-        call(*args)
-    except Refused as e:
-        return e.number, e.place
-    return None
 
 
 class Committing(unittest.TestCase):

@@ -11,15 +11,8 @@ from document01 import (Refused, check_pack, check_placement, check_reply, comb,
 from cases import half_means, of_kind, padded
 from limits import IDLE, NODES, ROW, largest_orders, largest_placements, one_row
 from operators import grant, plan_operator
+from reading import refusal
 from seven import DARK, DARK_NINE, DARK_P, NINE, NINES, P, P_LISTED, SEVEN
-
-
-def refusal(call, *args):
-    try:
-        call(*args)
-    except Refused as e:
-        return e.number, e.place
-    return None
 
 
 class Examples(unittest.TestCase):

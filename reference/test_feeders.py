@@ -12,21 +12,13 @@ sys.path.insert(0, str(Path(__file__).resolve().parent))
 from cases import random_fed, small_fed, small_placement
 from document01 import Refused, check_pack, check_placement, check_reply, curve, plan, unit_rows, walk
 from feeders import BARE, FIRST, TAIL, all_padded, bounded, edges, longest, of_feeders, own, placement, spread, two_on_one
-from reading import in_groups, numbers
+from reading import in_groups, numbers, refusal
 from rounds import rounds
 from seven import FED_NINE, FED_ROWS, FEEDERS, NINE, P, P_LISTED
 from worst import worst_case
 
 # places in FED_NINE: the figure, the first row, g, the first feeder, the end
 FIGURE, G, END = 8, 40, 52
-
-
-def refusal(call, *args):
-    try:
-        call(*args)
-    except Refused as e:
-        return e.number, e.place
-    return None
 
 
 def refused(data):

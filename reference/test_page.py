@@ -7,7 +7,8 @@ sys.path.insert(0, str(Path(__file__).resolve().parent))
 
 import limits
 from cabinet_page import page, page_lines
-from document01 import Refused, check_placement
+from document01 import check_placement
+from reading import refusal
 from seven import DARK_NINE, NINE, NINES
 
 PAGE = """\
@@ -22,14 +23,6 @@ PAGE = """\
    8 1   2   4   5        
 kept    5 of    9         
 """
-
-
-def refusal(data, output):
-    try:
-        page(data, output)
-    except Refused as e:
-        return e.number, e.place
-    return None
 
 
 class CabinetPage(unittest.TestCase):
@@ -59,10 +52,10 @@ class CabinetPage(unittest.TestCase):
             self.assertEqual((int(lines[-1][5:9]), int(lines[-1][13:17])), (placement["F"], 4_096))
 
     def test_refusals_in_order(self):
-        self.assertEqual(refusal(NINE, 270), None)
-        self.assertEqual(refusal(NINE, 269), (11, 270))
-        self.assertEqual(refusal(NINE[:-1], 0), (1, 38))
-        self.assertEqual(refusal(NINE + b"\0", 0), (5, 39))
+        self.assertEqual(refusal(page, NINE, 270), None)
+        self.assertEqual(refusal(page, NINE, 269), (11, 270))
+        self.assertEqual(refusal(page, NINE[:-1], 0), (1, 38))
+        self.assertEqual(refusal(page, NINE + b"\0", 0), (5, 39))
 
 
 if __name__ == "__main__":

@@ -7,19 +7,12 @@ from pathlib import Path
 sys.path.insert(0, str(Path(__file__).resolve().parent))
 
 from cases import random_placement
-from document01 import Refused, check_placement, usable
+from document01 import check_placement, usable
+from reading import refusal
 from replay import replay
 from seven import NINE
 
 DOWN, UP = True, False
-
-
-def refusal(data, log):
-    try:
-        replay(data, log)
-    except Refused as e:
-        return e.number, e.place
-    return None
 
 
 class Replay(unittest.TestCase):
@@ -33,13 +26,13 @@ class Replay(unittest.TestCase):
 
     def test_refusals(self):
         good = [(5, 0, DOWN), (5, 1, DOWN), (6, 0, UP)]
-        self.assertIsNone(refusal(NINE, good))
+        self.assertIsNone(refusal(replay, NINE, good))
         for log, expected in (([(5, 7, DOWN)], (20, 0)), ([(5, 0, UP)], (20, 0)), ([(0, 255, UP)], (20, 0)),
                               (good + [(5, 2, DOWN)], (19, 3)), (good + [(6, 1, DOWN)], (20, 3)), (good + [(6, 0, UP)], (20, 3)),
                               (good + [(5, 9, DOWN)], (19, 3)), (good + [(6, 9, DOWN), (0, 2, DOWN)], (20, 3)),
                               (good + [(0, 2, DOWN), (6, 9, DOWN)], (19, 3))):
-            self.assertEqual(refusal(NINE, log), expected)
-        self.assertEqual(refusal(NINE[:-1], [(5, 7, DOWN)]), (1, 38))
+            self.assertEqual(refusal(replay, NINE, log), expected)
+        self.assertEqual(refusal(replay, NINE[:-1], [(5, 7, DOWN)]), (1, 38))
 
     def test_at_least_the_figure(self):
         """After every event with at most k nodes down; and each node's events change its state."""

@@ -8,16 +8,9 @@ from pathlib import Path
 sys.path.insert(0, str(Path(__file__).resolve().parent))
 
 from cases import NINE, random_placement, seven_rows, two_node_placement
-from document01 import Refused, check_placement, curve, usable
+from document01 import check_placement, curve, usable
+from reading import refusal
 from rounds import play, rounds
-
-
-def refusal(data, q):
-    try:
-        rounds(data, q)
-    except Refused as e:
-        return e.number, e.place
-    return None
 
 
 class Rounds(unittest.TestCase):
@@ -47,10 +40,10 @@ class Rounds(unittest.TestCase):
 
     def test_limits(self):
         for q, n, b in ((1, 3, 1), (3, 5, 1), (3, 10, 256), (1, 10, 256)):
-            self.assertIsNone(refusal(two_node_placement(3, n, b), q))
+            self.assertIsNone(refusal(rounds, two_node_placement(3, n, b), q))
         for q, n, b in ((0, 7, 1), (4, 7, 1), (2 ** 63, 7, 1), (1, 11, 1), (2, 3, 1), (3, 4, 1), (1, 2, 1), (1, 10, 257), (3, 255, 4_096)):
-            self.assertEqual(refusal(two_node_placement(3, n, b), q), (18, 0))
-        self.assertEqual(refusal(NINE[:-1], 0), (1, 38))
+            self.assertEqual(refusal(rounds, two_node_placement(3, n, b), q), (18, 0))
+        self.assertEqual(refusal(rounds, NINE[:-1], 0), (1, 38))
 
 
 if __name__ == "__main__":

@@ -57,26 +57,34 @@ def placement_values(placement):
     return [placement[name] for name in ("kind", "n", "r", "s", "k", "b", "F", "at")] + layer_numbers(placement["layers"])
 
 
-def call_checker(script, name, check, values):
-    """Where nodes are out of service, or a row names one or has two on one feeder, the answer's list is compared too, as a count and
-    so many bytes; it is empty beside a refusal."""
+def call_check_pack(script):
+    """Where nodes are out of service, or a row names one, the answer's list is compared too, as a count and so many bytes; it is
+    empty beside a refusal."""
     try:
-        file = check(script.input)
-        given, dark = [0, *values(file)], file["dark"]
+        file = reference.check_pack(script.input)
+        given, dark = [0, *pack_values(file)], file["dark"]
     except Refused as e:
         given, dark = [e.number, e.place], []
-    if dark or given[0] in (15, 21):
-        script.call(name, [], given, room=len(dark) + 3, written=bytes([len(dark), *dark]))
+    if dark or given[0] == 15:
+        script.call("check_pack", [], given, room=len(dark) + 3, written=bytes([len(dark), *dark]))
     else:
-        script.call(name, [], given)
-
-
-def call_check_pack(script):
-    call_checker(script, "check_pack", reference.check_pack, pack_values)
+        script.call("check_pack", [], given)
 
 
 def call_check_placement(script):
-    call_checker(script, "check_placement", reference.check_placement, placement_values)
+    """The list as of a pack; after it g and the nodes' feeders, with two entries past them, which are 0 as all are without feeders
+    or beside a refusal."""
+    try:
+        file = reference.check_placement(script.input)
+        given, dark, feeders = [0, *placement_values(file)], file["dark"], file["feeders"]
+    except Refused as e:
+        given, dark, feeders = [e.number, e.place], [], None
+    if dark or feeders or given[0] in (15, 21):
+        fed = [file["units"], *feeders] if feeders else [0]
+        written = bytes([len(dark), *dark, *(fed + [0, 0])[:256]])
+        script.call("check_placement", [], given, room=len(written), written=written)
+    else:
+        script.call("check_placement", [], given)
 
 
 def call_read(script, at):
@@ -229,17 +237,13 @@ def call_check_reply(script, room=LINE_ROOM):
     script.call("check_reply", [], [0, len(reply)], reply_kind(reply), room, reply)
 
 
-def call_plan_reply(script, work=WORK_MOST, room=OUTPUT_MOST):
-    if work < WORK_MOST or room < OUTPUT_MOST:
-        refusal = [10, WORK_MOST] if work < WORK_MOST else [11, OUTPUT_MOST]
-        script.call("plan_reply", [], refusal, room=room, work=work)
+def call_plan_reply(script, room=OUTPUT_MOST):
+    """What `plan` writes with no argument."""
+    if room < OUTPUT_MOST:
+        script.call("plan_reply", [], [11, OUTPUT_MOST], room=room)
         return
     reply = reference.plan_reply(script.input)
-    kind, free = reply_kind(reply), 0
-    if not kind:
-        s, k, b, _ = read_order(script.input)
-        free = s * (b + 1)
-    script.call("plan_reply", [], [0, len(reply)], kind, room, reply, work, free)
+    script.call("plan_reply", [], [0, len(reply)], reply_kind(reply), room, reply)
 
 
 def read_order(data):
@@ -662,7 +666,7 @@ def plan_edges(script, s, k, b, r):
 def plan_vectors(script):
     for i, data in enumerate(plan_inputs()):
         script.read(data)
-        call_plan_reply(script, WORK_MOST + i % 2, OUTPUT_MOST + i % 3)
+        call_plan_reply(script, OUTPUT_MOST + i % 3)
         try:
             s, k, b, at = read_order(data)
         except Refused:
@@ -674,8 +678,8 @@ def plan_vectors(script):
         if i % 5 == 0 and b < 100 and not refused:
             plan_edges(script, s, k, b, r)
     script.read(numbers(2, 3, 9) + P)
-    for work, room in ((0, 0), (WORK_MOST - 1, OUTPUT_MOST - 1), (WORK_MOST - 1, OUTPUT_MOST), (WORK_MOST, OUTPUT_MOST - 1)):
-        call_plan_reply(script, work, room)
+    for room in (0, OUTPUT_MOST - 1, OUTPUT_MOST):
+        call_plan_reply(script, room)
     script.read(P)
     for order in ((LARGEST_64, 3, 9), (2, LARGEST_64, 9), (2, 3, LARGEST_64), (0, 0, 0), (3, 6, 9), (4, 6, 9), (3, 7, 9)):
         call_plan(script, *order, 0, 0)

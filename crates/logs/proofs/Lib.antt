@@ -1,5 +1,4 @@
 pub mod Lines
-pub mod Texts
 pub mod Nodes
 pub mod Prefix
 pub mod Says

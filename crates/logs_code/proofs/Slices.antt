@@ -15,7 +15,7 @@ use Rattle.logs.specs.declared.LogLine.{LogLine}
 use Rattle.logs.specs.declared.LogLine.the-variants.{Nothing, Unreadable}
 use Rattle.logs.specs.Lines.{noBlank, blanks, solid, wordOf, afterWord, sameBytes, downWord, upWord, numberOf, stateOf, withTime, lastWord, twoWords, threeWords, contentLine, lineOf}
 use Rattle.logs.proofs.Lines.{leading-le, after-word}
-use Rattle.logs.proofs.Texts.{before-length, before-take}
+use Rattle.table.proofs.Places.{before-length, before-take}
 
 -- a word as a state
 module _ (word : List ℕ) where

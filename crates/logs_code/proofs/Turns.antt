@@ -19,7 +19,7 @@ use Rattle.logs.specs.declared.LogEnd.the-variants.{Whole, Refused}
 use Rattle.logs.specs.declared.Log.{Log}
 use Rattle.logs.specs.Lines.{lineOf}
 use Rattle.logs.specs.Reading.{LogRead, events, unread, _>>=_, LogIn, addLine, readLines, readText, readLog, eventsMost, textMost}
-use Rattle.logs.proofs.Texts.{linesFrom, lines-at, line-within, before-take}
+use Rattle.table.proofs.Places.{linesFrom, lines-at, line-within, before-take}
 
 -- a refused text
 pub unread-in : {read : LogRead} {e : TextRefusal} (log : Log) → read ≡ unread e → log .end ≡ Refused e → LogIn read log

@@ -10,7 +10,7 @@ use lib.Dec.{lit≤}
 use Rattle.refusal.specs.declared.Refusal.{Refusal}
 use Rattle.refusal.specs.declared.Refusal.the-variants.{Ended, Malformed, WrongKind, OutsideLimits, Trailing, BadRow, Crowded, WrongFigure, NoBlock, ShortWork, ShortOutput, BadOrder, Unjoinable, BadWish, OutOfService, BadCounts, TooManySets, BadRounds, EarlierEvent, BadEvent, SharedFeeder}
 use Rattle.refusal.specs.Refusals.{result, numberOf}
-use Rattle.refusal.specs.Checked.{Checked, accepted, refused, _>>=_, outcome, written, verdict, verdictOutcome, writing, writingOutcome}
+use Rattle.refusal.specs.Checked.{Checked, accepted, refused, outcome, written, verdict, verdictOutcome, writing, writingOutcome}
 use Rattle.number.specs.declared.Reading.{Reading}
 use Rattle.number.specs.Answers.{numberRead, readOutcome, numberWritten, writtenOutcome}
 use Rattle.packing.specs.Answers.{rowFound, rowOutcome}
@@ -26,10 +26,7 @@ use Rattle.planner.specs.Answers.{planAnswer, planOutcome, planValues}
 use Rattle.commit.specs.Asking.{Offer, askAnswer, askOutcome, offerValues}
 use Rattle.walk.specs.declared.Cursor.{Cursor}
 use Rattle.walk.specs.RowWalk.{walkOpened, walkOutcome}
-use Rattle.report.specs.declared.OrderReading.{OrderReading}
-use Rattle.report.specs.Programs.{planInput}
-use Rattle.report.specs.Replies.{planSlices, PlanWork}
-use Rattle.report.specs.Answers.{reply, replyOutcome, orderRead, orderOutcome}
+use Rattle.report.specs.Answers.{reply, replyOutcome}
 
 -- "a numbered refusal": 1 to 21
 pub demand-1-numbered : (e : Refusal) → (1 ≤ numberOf e) × (numberOf e ≤ 21)
@@ -58,11 +55,6 @@ demand-1-numbered (SharedFeeder p) = (lit≤ tt, lit≤ tt)
 -- "after a refusal each lent buffer holds what it held before": the slice that a number or a program's reply is put into
 pub demand-1-unchanged : (e : Refusal) (out : List ℕ) → written (refused e) out ≡ out
 demand-1-unchanged e out = refl
-
--- the working slice of the program `plan`, where its slices are refused, or its input
-pub demand-1-reply-unchanged : (input : List ℕ) (work output : ℕ) (e : Refusal) (before after : List ℕ)
-    → (planSlices work output >>= (λ _. planInput input)) ≡ refused e → PlanWork input work output before after → after ≡ before
-demand-1-reply-unchanged input work output e before after is left = rw is at left
 
 -- reading and writing a number
 pub demand-1-read : (c : Checked Reading) → readOutcome (numberRead c) ≡ outcome (λ n. n .value ∷ n .next ∷ []) c
@@ -126,15 +118,10 @@ pub demand-1-walk : (c : Checked Cursor) → walkOutcome (walkOpened c) ≡ outc
 demand-1-walk (accepted walk) = refl
 demand-1-walk (refused e) = refl
 
--- the programs' replies, and the three numbers before a pack
+-- the programs' replies
 pub demand-1-reply : (c : Checked (List ℕ)) → replyOutcome (reply c) ≡ outcome (λ bytes. length bytes ∷ []) c
 demand-1-reply (accepted bytes) = refl
 demand-1-reply (refused e) = refl
-
-pub demand-1-numbers : (c : Checked OrderReading)
-    → orderOutcome (orderRead c) ≡ outcome (λ read. read .order .s ∷ read .order .k ∷ read .order .b ∷ read .at ∷ []) c
-demand-1-numbers (accepted read) = refl
-demand-1-numbers (refused e) = refl
 
 -- a call that only writes
 pub demand-1-writing : (c : Checked (List ℕ)) → writingOutcome (writing c) ≡ outcome (λ elements. length elements ∷ []) c

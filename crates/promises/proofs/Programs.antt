@@ -1,6 +1,6 @@
 -- Demand 3 through the programs: what `plan` writes for a good order, given to `check`, prints the accepted line with that
 -- figure. Assumes nothing.
-use Prim.Native.Nat.{ℕ, _+_, _≤_}
+use Prim.Native.Nat.{ℕ, _≤_}
 use native.Mathlib.Omega.{arith}
 use native.Mathlib.Nat.{zero-add}
 use mathlib.Core.Path.{_≡_, refl, _∙_, ap}
@@ -25,6 +25,8 @@ use Rattle.planner.specs.Planning.{splitPlacement, namedPlacement, workMost, ou
 use Rattle.planner.proofs.Planned.{entries-most, bytes-most, plan-never-refuses, plan-accepted}
 use Rattle.report.specs.declared.Summary.{Summary}
 use Rattle.report.specs.Programs.{acceptedLine, summary, orRefusedLine, checkLine, readOrder, planInput, plannedReply, planReply}
+use Rattle.replies.specs.Plans.{planProgram}
+use Rattle.replies.proofs.Programs.{plan-as-before}
 
 -- "`plan` reads s, k, b as numbers, then a pack": what a good order is given as
 abbrev pub orderInput : (s k b : ℕ) (pack : List ℕ) → List ℕ
@@ -41,12 +43,12 @@ order-read s k b pack most =
     rw zero-add at (forms-reads numbers [] (formsOf numbers) pack (forms-of numbers most)) in
     rw (read₁, read₂, read₃, e)
 
--- What `plan` writes for a good order is the named placement, and `check` prints its line.
+-- What the program `plan` writes for a good order is the named placement, and `check` prints its line.
 pub demand-3-programs : (bytes : List ℕ) (pack : Pack) → Bytes bytes → PackFile pack bytes × GoodPack pack
     → (s k b : ℕ) → OrderLimits (pack .n) (pack .r) (record { s = s; k = k; b = b }) → T (hasBlock (headsOf (pack .layers)) s)
     → (split : ℕ → Share) × (line : Summary) × Named NestedFloors (headsOf (pack .layers)) s k b split
-    × (planReply (orderInput s k b bytes) ≡ placementBytes (splitPlacement pack s k b split))
-    × (checkLine (planReply (orderInput s k b bytes)) ≡ acceptedLine line)
+    × (planProgram [] (orderInput s k b bytes) ≡ placementBytes (splitPlacement pack s k b split))
+    × (checkLine (planProgram [] (orderInput s k b bytes)) ≡ acceptedLine line)
     × (line .figure ≡ splitPlacement pack s k b split .figure)
     × (line .b ≡ b)
     × (line .k ≡ k)
@@ -66,8 +68,9 @@ demand-3-programs bytes pack h is s k b limits block =
     (entries-most pack good order limits) (bytes-most pack good order limits) in
     let input : planInput (orderInput s k b bytes) ≡ accepted p =
     rw (order-read s k b bytes most, drop-append-seam (formsOf (s ∷ k ∷ b ∷ [])) bytes) planned in
-    let wrote : planReply (orderInput s k b bytes) ≡ placementBytes p = ap plannedReply input in
-    let line : checkLine (planReply (orderInput s k b bytes)) ≡ acceptedLine (summary p) =
+    let wrote : planProgram [] (orderInput s k b bytes) ≡ placementBytes p =
+    plan-as-before (orderInput s k b bytes) ∙ ap plannedReply input in
+    let line : checkLine (planProgram [] (orderInput s k b bytes)) ≡ acceptedLine (summary p) =
     ap checkLine wrote
     ∙ ap (λ c. orRefusedLine (mapAccepted (λ q. acceptedLine (summary q)) c)) (plan-accepted bytes pack accept order limits block) in (
       namedSplit NestedFloors (headsOf (pack .layers)) s k b,

@@ -25,15 +25,16 @@ use Rattle.placement.specs.Placement.{Placement, OrderLimits, GoodPlacement, pl
 use Rattle.placement.specs.declared.Order.{Order}
 use Rattle.placement.proofs.Written.{written-length}
 use Rattle.split.specs.Splits.{hasBlock}
-use Rattle.planner.specs.Planning.{plan, namedPlacement, splitPlacement, workNeeded, outputNeeded}
+use Rattle.planner.specs.Planning.{plan, namedPlacement, splitPlacement, workNeeded, outputNeeded, outputMost}
 use Rattle.planner.specs.Answers.{PlanDone, planOutcome}
 use Rattle.planner.specs.declared.PlanResult.{PlanResult}
 use Rattle.planner.proofs.Checks.{order-good, blocks-good, work-good, output-short, output-refused, planned-fits}
 use Rattle.planner.proofs.Planned.{plan-good}
-use Rattle.report.specs.Programs.{checkLine, planReply}
-use Rattle.report.specs.Replies.{planInto}
-use Rattle.report.proofs.Prefix.{checkLine-buffer, planReply-buffer}
-use Rattle.report.proofs.Worked.{lent}
+use Rattle.report.specs.Programs.{checkLine}
+use Rattle.report.proofs.Prefix.{checkLine-buffer}
+use Rattle.replies.specs.Replying.{into}
+use Rattle.replies.specs.Plans.{planProgram}
+use Rattle.replies.proofs.Prefix.{plan-buffer}
 use Rattle.join.specs.Join.{jointDark, joinedPack, checkPacks, join}
 use Rattle.join.specs.Answers.{JoinDone}
 use Rattle.join.specs.declared.Joined.{Joined}
@@ -139,13 +140,16 @@ h-output-short bytes pack is order within block work work-left out out-left give
     (ap planOutcome (d .answer), d .work-after, d .output-after)
 
 -- The program `plan` has an output of 20,928 bytes, and its reply asks for as many: a byte fewer is refused.
-pub h-reply-limit : (input : List ℕ)
-    → (planInto input 20_485 20_927 ≡ refused (ShortOutput 20_928)) × (planInto input 20_485 20_928 ≡ accepted (planReply input))
-h-reply-limit input = (lent input .3, lent input .4)
+pub h-reply-limit : (arguments input : List ℕ)
+    → (into outputMost (planProgram arguments input) 20_927 ≡ refused (ShortOutput 20_928))
+    × (into outputMost (planProgram arguments input) 20_928 ≡ accepted (planProgram arguments input))
+unfolding into
+h-reply-limit arguments input = (refl, refl)
 
 -- Whatever lists the files have, the first 32,768 bytes of an input decide what the programs write.
-pub h-first-bytes : (input : List ℕ) → (checkLine (take 32_768 input) ≡ checkLine input) × (planReply (take 32_768 input) ≡ planReply input)
-h-first-bytes input = (checkLine-buffer input, planReply-buffer input)
+pub h-first-bytes : (arguments input : List ℕ) → (checkLine (take 32_768 input) ≡ checkLine input)
+    × (planProgram arguments (take 32_768 input) ≡ planProgram arguments input)
+h-first-bytes arguments input = (checkLine-buffer input, plan-buffer arguments input)
 
 -- "Joining chunks shifts and joins the lists": the joined list is the packs' lists one after another, each with node numbers after
 -- the nodes of the packs before it.

@@ -4,38 +4,31 @@
 -- Assumes nothing.
 use Prim.Native.Nat.{ℕ, _*_, _≤_, _<_}
 use native.Mathlib.Omega.{arith}
-use native.Mathlib.Nat.{le-of-eq}
 use mathlib.Core.Path.{_≡_, refl, sym, _∙_, ap, subst}
 use mathlib.Core.Bool.{Bool}
 use mathlib.Core.List.{List, [], _∷_}
 use lib.ListN.{length, take, drop, length-append, length-drop}
 use lib.Seq.{take-at, drop-at}
-use lib.Dec.{T, leb, ltb, ltb→lt}
+use lib.Dec.{T, leb}
 use borrow.Author.Tests.{le-leb, lt-leb}
-use Rattle.lists.specs.Lists.{All}
-use Rattle.lists.proofs.Alls.{all-imp, every-all}
-use Rattle.lists.proofs.Tests.{and-right}
 use Rattle.refusal.specs.Refusals.{result, refusal}
 use Rattle.refusal.specs.declared.Refusal.the-variants.{ShortOutput, TooManySets}
 use Rattle.refusal.specs.Checked.{Checked, accepted, refused, _>>=_, require, mapAccepted, outcome}
 use Rattle.refusal.specs.Agree.{Agree, both-accepted, both-refused}
 use Rattle.binomial.specs.Choose.{choose}
-use Rattle.packing.specs.Rows.{ascending, Row, member, recordsIn}
+use Rattle.packing.specs.Rows.{ascending, member, recordsIn}
 use Rattle.packing.specs.Failures.{Failure, FailedNodes, usable}
 use Rattle.packing.proofs.Failed.{failure-of-nodes}
-use Rattle.layers.specs.Layers.{Located, sizes}
-use Rattle.placement.specs.Feeders.{unitLayers}
-use Rattle.layers.proofs.Lengths.{length-allRows}
+use Rattle.layers.specs.Layers.{Located}
 use Rattle.placement.specs.Placement.{Placement, GoodPlacement, readPlacement, checkPlacement}
 use Rattle.placement.specs.Units.{units, unitRows}
 use Rattle.placement.specs.Answers.{placementChecked, placementOutcome}
-use Rattle.placement.proofs.Units.{unit-rows-are, figureAt-holds, figureAt-planned}
-use Rattle.placement.proofs.TableRows.{units-within}
-use Rattle.placement.proofs.FeederRows.{unit-heads}
+use Rattle.placement.proofs.Units.{figureAt-holds, figureAt-planned}
 use Rattle.worst.specs.Worst.{Worst, fewSets, worstOf, checkWorst, Before}
 use Rattle.worst.specs.Answers.{worstAnswer, worstOutcome, WorstDone}
 use Rattle.worst.specs.declared.WorstCase.{WorstCase}
-use Rattle.worst.proofs.Exact.{TrueWorst, worst-exact}
+use Rattle.worst.proofs.Exact.{TrueWorst}
+use Rattle.worst.proofs.Good.{worst-of-good}
 use Rattle.promises.proofs.Says.{not-both}
 use Rattle.promises.proofs.Fails.{Fails, nodes-fail}
 use Rattle.promises.proofs.Requests.{SameContent, SameAnswer, results, refusals}
@@ -67,18 +60,6 @@ pub record WorstKept (m : ℕ) (rows : List (List ℕ)) (s k figure : ℕ) (out 
   -- bytes past k never change
   pub rest : drop k out-left ≡ drop k out
   pub same-length : length out-left ≡ length out
-
--- the true worst case of an accepted placement
-worst-of-good : (p : Placement) → GoodPlacement p → TrueWorst (units p) (p .s) (p .k) (unitRows p) (worstOf p)
-unfolding worstOf
-worst-of-good p good =
-    let count : length (unitRows p) ≡ p .b =
-    length-allRows (unitLayers (p .feeders) (p .layers)) ∙ ap sizes (unit-heads (p .feeders) (p .layers)) ∙ good .limits .records-all in
-    worst-exact (units p) (p .s) (p .k) (p .b) (unitRows p) (omega (arith, units-within p good .0))
-    (le-of-eq count)
-    (all-imp (Row (units p) (p .r)) (All (λ v. v < units p))
-    (λ row h. all-imp _ _ (λ v t. ltb→lt v (units p) t) row (every-all (λ v. ltb v (units p)) row (and-right (ascending 0 row) _ (h .1))))
-    (unitRows p) (unit-rows-are p good))
 
 -- it is at least F
 figure-below : (p : Placement) → GoodPlacement p → p .figure ≤ worstOf p .fewest

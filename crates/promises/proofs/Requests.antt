@@ -1,7 +1,7 @@
 -- Document 02's requests as theorems, in its words and order. Assumes nothing.
 use Prim.Native.Nat.{ℕ, _*_, _<_, _+_, _-_, _≤_, suc}
 use native.Mathlib.Omega.{arith}
-use mathlib.Core.Path.{_≡_, refl, ap}
+use mathlib.Core.Path.{_≡_, refl, sym, _∙_, ap}
 use mathlib.Core.Logic.{_↔_}
 use mathlib.Core.List.{List, _∷_, _++_, []}
 use lib.ListN.{length, getD, take, drop}
@@ -28,6 +28,8 @@ use Rattle.planner.proofs.Padding.{plan-padded}
 use Rattle.report.specs.declared.Summary.{Summary}
 use Rattle.report.specs.Load.{mean, Rounded}
 use Rattle.report.specs.Programs.{acceptedLine, summary, orRefusedLine, checkLine, plannedReply, planReply}
+use Rattle.replies.specs.Plans.{planProgram}
+use Rattle.replies.proofs.Programs.{plan-as-before}
 use Rattle.report.proofs.Mean.{halfToEven-rounded, rounded-unique}
 use Rattle.report.proofs.Padding.{planInput-padded}
 
@@ -148,7 +150,9 @@ b-same-plan numbers f g rest forms forms′ most =
 
 -- `plan`'s own three numbers take padding too: whichever of them are padded, it writes the same bytes.
 pub b-same-order : (numbers f g rest : List ℕ) → Forms numbers f → Forms numbers g → length numbers ≤ 3
-    → planReply (f ++ rest) ≡ planReply (g ++ rest)
+    → planProgram [] (f ++ rest) ≡ planProgram [] (g ++ rest)
 unfolding planReply
 b-same-order numbers f g rest forms forms′ few =
-    ap plannedReply (planInput-padded numbers (f ++ rest) (g ++ rest) few (padded-forms numbers f g rest forms forms′))
+    plan-as-before (f ++ rest)
+    ∙ ap plannedReply (planInput-padded numbers (f ++ rest) (g ++ rest) few (padded-forms numbers f g rest forms forms′))
+    ∙ sym (plan-as-before (g ++ rest))

@@ -1,35 +1,26 @@
 -- The line of `worst`, from the answers of the calls. Assumes nothing.
-use Prim.Native.Nat.{ℕ, _-_, _≤_, _<_}
+use Prim.Native.Nat.{ℕ, _-_, _≤_}
 use native.Mathlib.Omega.{arith}
-use native.Mathlib.Nat.{sub-zero, le-of-eq}
+use native.Mathlib.Nat.{sub-zero}
 use mathlib.Core.Path.{_≡_, refl, sym, _∙_, ap, subst}
 use mathlib.Core.List.{List}
 use lib.ListN.{length, take, drop, length-append}
 use lib.Seq.{take-at}
-use lib.Dec.{leb, ltb, ltb→lt}
-use Rattle.lists.specs.Lists.{All, overStart}
-use Rattle.lists.proofs.Alls.{all-imp, every-all}
-use Rattle.lists.proofs.Tests.{and-right}
+use lib.Dec.{leb}
+use Rattle.lists.specs.Lists.{overStart}
 use Rattle.refusal.specs.declared.Refusal.{Refusal}
 use Rattle.refusal.specs.declared.Refusal.the-variants.{ShortOutput, TooManySets}
 use Rattle.refusal.specs.Checked.{Checked, accepted, refused, _>>=_, require, mapAccepted, written}
 use Rattle.refusal.proofs.Checked.{accepted-injective, bind-elim, require-bind-accepted, mapAccepted-accepted}
-use Rattle.packing.specs.Rows.{Row, ascending}
-use Rattle.layers.specs.Layers.{sizes}
-use Rattle.layers.proofs.Lengths.{length-allRows}
-use Rattle.placement.specs.Feeders.{unitLayers}
-use Rattle.placement.specs.Units.{units, unitRows}
+use Rattle.placement.specs.Units.{units}
 use Rattle.placement.specs.Placement.{Placement, GoodPlacement, readPlacement, checkPlacement}
 use Rattle.placement.specs.declared.Order.{Order}
 use Rattle.placement.proofs.Accepted.{read-of-placement}
-use Rattle.placement.proofs.FeederRows.{unit-heads}
-use Rattle.placement.proofs.TableRows.{units-within}
-use Rattle.placement.proofs.Units.{unit-rows-are}
 use Rattle.worst.specs.Worst.{Worst, fewSets, worstOf, checkWorst}
 use Rattle.worst.specs.Answers.{worstAnswer, WorstDone}
 use Rattle.worst.specs.declared.WorstCase.{WorstCase}
 use Rattle.worst.specs.declared.WorstCase.the-variants.{Fewest, Refused}
-use Rattle.worst.proofs.Exact.{worst-exact}
+use Rattle.worst.proofs.Good.{worst-of-good}
 use Rattle.report.specs.Programs.{refusedLine, orRefusedLine}
 use Rattle.report.specs.Replies.{Replied}
 use Rattle.report_lines.specs.Put.{Put}
@@ -37,17 +28,6 @@ use Rattle.replies.specs.Lines.{numbersLine}
 use Rattle.call_replies.specs.Orders.{OrderOf}
 use Rattle.call_replies.specs.Worst.{worstLine, worstText, worstNeeded}
 use Rattle.reply_lines.proofs.Puts.{numbers-replied}
-
--- an accepted placement's set has k nodes
-set-size : (p : Placement) → GoodPlacement p → length (worstOf p .set) ≡ p .k
-unfolding worstOf
-set-size p good =
-    let count : length (unitRows p) ≡ p .b =
-    length-allRows (unitLayers (p .feeders) (p .layers)) ∙ ap sizes (unit-heads (p .feeders) (p .layers)) ∙ good .limits .records-all in
-    worst-exact (units p) (p .s) (p .k) (p .b) (unitRows p) (omega (arith, units-within p good .0)) (le-of-eq count)
-    (all-imp (Row (units p) (p .r)) (All (λ v. v < units p))
-    (λ row h. all-imp _ _ (λ v t. ltb→lt v (units p) t) row (every-all (λ v. ltb v (units p)) row (and-right (ascending 0 row) _ (h .1))))
-    (unitRows p) (unit-rows-are p good)) .nodes .number
 
 good-of : (placement : List ℕ) (p : Placement) → checkPlacement placement ≡ accepted p → GoodPlacement p
 unfolding checkPlacement
@@ -68,7 +48,7 @@ found-size placement {order} {worst} is e =
     let worst-is : worstOf p ≡ worst = accepted-injective r₃ in
     let k-is : order .k ≡ p .k = ap (λ order. order .k) (is p e₁) in
     let good = good-of placement p e₁ in
-    (rw (← worst-is, k-is) (set-size p good), omega (arith, good .limits .order .k-most, good .limits .base .n-most))
+    (rw (← worst-is, k-is) (worst-of-good p good .nodes .number), omega (arith, good .limits .order .k-most, good .limits .base .n-most))
 
 -- the line of a number and of nodes that stand at the start of an array, as the code lends them
 pub set-replied : (number : ℕ) (nodes old : List ℕ) {numbers before after : List ℕ} {next : ℕ} → numbers ≡ overStart nodes old

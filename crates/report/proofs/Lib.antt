@@ -1,5 +1,4 @@
 pub mod Worked
-pub mod Orders
 pub mod Prefix
 pub mod Mean
 pub mod Replies

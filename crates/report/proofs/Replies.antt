@@ -7,14 +7,13 @@ use lib.ListN.{length, drop, length-append}
 use borrow.Author.Tests.{le-leb, lt-leb}
 use Rattle.lists.specs.Lists.{overStart}
 use Rattle.refusal.specs.declared.Refusal.{Refusal}
-use Rattle.refusal.specs.declared.Refusal.the-variants.{ShortWork, ShortOutput}
+use Rattle.refusal.specs.declared.Refusal.the-variants.{ShortOutput}
 use Rattle.refusal.specs.Checked.{Checked, accepted, refused}
-use Rattle.planner.specs.Planning.{workMost, outputMost}
-use Rattle.report.specs.Programs.{checkLine, planReply}
+use Rattle.report.specs.Programs.{checkLine}
 use Rattle.report.specs.Answers.{ReplyDone}
 use Rattle.report.specs.declared.Reply.{Reply}
 use Rattle.report.specs.declared.Reply.the-variants.{Written, Refused}
-use Rattle.report.specs.Replies.{Replied, lineNeeded, planSlices, checkInto, planInto}
+use Rattle.report.specs.Replies.{Replied, lineNeeded, checkInto}
 
 module _ (input : List ℕ) (output : ℕ) where
   pub checkInto-short : output < lineNeeded → checkInto input output ≡ refused (ShortOutput lineNeeded)
@@ -25,25 +24,6 @@ module _ (input : List ℕ) (output : ℕ) where
   pub checkInto-enough : lineNeeded ≤ output → checkInto input output ≡ accepted (checkLine input)
   unfolding checkInto
   checkInto-enough enough = rw (le-leb lineNeeded output enough)
-
-module _ (work output : ℕ) where
-  pub plan-short-work : work < workMost → planSlices work output ≡ refused (ShortWork workMost)
-  unfolding planSlices
-  plan-short-work short = rw (lt-leb workMost work short)
-
-  module _ (entries : workMost ≤ work) where
-    pub plan-short-output : output < outputMost → planSlices work output ≡ refused (ShortOutput outputMost)
-    unfolding planSlices
-    plan-short-output short = rw (le-leb workMost work entries, lt-leb outputMost output short)
-
-    pub plan-enough : outputMost ≤ output → planSlices work output ≡ accepted tt
-    unfolding planSlices
-    plan-enough bytes = rw (le-leb workMost work entries, le-leb outputMost output bytes)
-
-    -- In slices as long as those of the program `plan`, its reply is never refused.
-    pub planInto-enough : (input : List ℕ) → outputMost ≤ output → planInto input work output ≡ accepted (planReply input)
-    unfolding planInto
-    planInto-enough input bytes = rw (plan-enough bytes)
 
 -- A reply at the slice's start is within it.
 pub replied-of : (reply : List ℕ) (answer : ℕ) (before after : List ℕ) → answer ≡ length reply

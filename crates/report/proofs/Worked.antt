@@ -3,7 +3,7 @@ use Prim.Native.Nat.{ℕ}
 use mathlib.Core.Path.{_≡_, refl, _∙_, ap}
 use mathlib.Core.List.{List, [], _∷_, _++_, flatten}
 use Rattle.lists.specs.Lists.{count, largest, upTo}
-use Rattle.refusal.specs.declared.Refusal.the-variants.{ShortWork, ShortOutput}
+use Rattle.refusal.specs.declared.Refusal.the-variants.{ShortOutput}
 use Rattle.refusal.specs.Checked.{accepted, refused, mapAccepted}
 use Rattle.number.specs.Numbers.{readGroups, readNumber}
 use Rattle.packing.specs.Rows.{member}
@@ -14,7 +14,7 @@ use Rattle.placement.proofs.Worked.{placements, placements-of-kind-3, placement
 use Rattle.planner.proofs.Worked.{orders}
 use Rattle.report.specs.Load.{halfToEven, mean}
 use Rattle.report.specs.Programs.{digits, decimal, rest, acceptedWord, acceptedLine, summary, orRefusedLine, checkLine, readOrder, planInput, plannedReply, planReply}
-use Rattle.report.specs.Replies.{planSlices, checkInto, planInto}
+use Rattle.report.specs.Replies.{checkInto}
 
 -- "`check` prints `accepted 5 9 3 7 4 4`", for kinds 2, 3 and 5; `plan` with the numbers 2 3 9 and then P writes the whole file, by
 -- request (h) of kind 5
@@ -41,12 +41,9 @@ pub means : (mean 5 2 4 ≡ 2)
 unfolding halfToEven
 means = (refl, refl, refl, refl, refl, refl)
 
--- a slice one byte or entry short is refused with what is needed, 10 before 11, and one of that length is taken
+-- a slice one byte short is refused with what is needed, and one of that length is taken
 pub lent : (input : List ℕ)
     → (checkInto input 199 ≡ refused (ShortOutput 200))
     × (checkInto input 200 ≡ accepted (checkLine input))
-    × (planInto input 20_484 20_927 ≡ refused (ShortWork 20_485))
-    × (planInto input 20_485 20_927 ≡ refused (ShortOutput 20_928))
-    × (planInto input 20_485 20_928 ≡ accepted (planReply input))
-unfolding planSlices checkInto planInto
-lent input = (refl, refl, refl, refl, refl)
+unfolding checkInto
+lent input = (refl, refl)

@@ -7,9 +7,6 @@ use Rattle.refusal.specs.Refusals.{Outcome, result, refusalOutcome}
 use Rattle.refusal.specs.Checked.{Checked, accepted, refused, written}
 use Rattle.report.specs.declared.Reply.{Reply}
 use Rattle.report.specs.declared.Reply.the-variants.{Written, Refused}
-use Rattle.report.specs.declared.OrderReading.{OrderReading}
-use Rattle.report.specs.declared.OrderRead.{OrderRead}
-use Rattle.report.specs.declared.OrderRead.the-variants.{Value, Refused as NotRead}
 
 abbrev pub reply : Checked (List ℕ) → Reply
 reply (accepted bytes) = Written (length bytes)
@@ -24,12 +21,3 @@ replyOutcome (Refused e) = refusalOutcome e
 pub record ReplyDone (replied : Checked (List ℕ)) (out out-left : List ℕ) (given : Reply) : Type 0 where
   pub answer : given ≡ reply replied
   pub output-after : out-left ≡ written replied out
-
-abbrev pub orderRead : Checked OrderReading → OrderRead
-orderRead (accepted read) = Value read
-orderRead (refused e) = NotRead e
-
--- an order's values are s, k, b and the place of the pack
-abbrev pub orderOutcome : OrderRead → Outcome
-orderOutcome (Value read) = result (read .order .s ∷ read .order .k ∷ read .order .b ∷ read .at ∷ [])
-orderOutcome (NotRead e) = refusalOutcome e

@@ -12,10 +12,10 @@ use Rattle.number.specs.Numbers.{readNumber}
 use Rattle.number.specs.declared.Reading.{Reading}
 use Rattle.layers.specs.Layers.{allRows}
 use Rattle.placement.specs.Placement.{Placement, checkPlacement, placementBytes}
+use Rattle.placement.specs.declared.Order.{Order}
 use Rattle.planner.specs.Planning.{plan, workMost, outputMost}
 use Rattle.packing.specs.Load.{most}
 use Rattle.report.specs.declared.Summary.{Summary}
-use Rattle.report.specs.declared.OrderReading.{OrderReading}
 use Rattle.report.specs.Load.{mean}
 
 -- n in decimal ASCII digits, at most `more` of them before the last
@@ -73,6 +73,11 @@ checkLine input = orRefusedLine (mapAccepted (λ p. acceptedLine (summary p)) (c
 abbrev pub orderNumber : (index : ℕ) → Checked Reading → Checked Reading
 orderNumber index (accepted number) = accepted number
 orderNumber index (refused e) = refused (BadOrder index)
+
+-- the order that is read, and the place of the pack after it
+pub record OrderReading : Type 0 where
+  pub order : Order
+  pub at : ℕ
 
 -- "`plan` reads s, k, b as numbers"
 unfoldable pub readOrder : (input : List ℕ) → Checked OrderReading

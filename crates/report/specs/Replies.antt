@@ -5,10 +5,9 @@ use mathlib.Core.List.{List}
 use lib.ListN.{length}
 use lib.Dec.{leb}
 use Rattle.lists.specs.Lists.{overStart}
-use Rattle.refusal.specs.declared.Refusal.the-variants.{ShortWork, ShortOutput}
+use Rattle.refusal.specs.declared.Refusal.the-variants.{ShortOutput}
 use Rattle.refusal.specs.Checked.{Checked, accepted, _>>=_, require}
-use Rattle.planner.specs.Planning.{workMost, outputMost, WorkAfter}
-use Rattle.report.specs.Programs.{checkLine, planInput, planReply}
+use Rattle.report.specs.Programs.{checkLine}
 
 -- the bytes that `check` asks for, whatever the input: every line is shorter
 abbrev pub lineNeeded : ℕ
@@ -19,22 +18,6 @@ unfoldable pub checkInto : (input : List ℕ) (output : ℕ) → Checked (List �
 checkInto input output = do
   _ ← require (leb lineNeeded output) (ShortOutput lineNeeded)
   accepted (checkLine input)
-
--- `plan` asks for what the largest order needs, whatever the input: refusal 10, then 11
-unfoldable pub planSlices : (work output : ℕ) → Checked Unit
-planSlices work output = do
-  _ ← require (leb workMost work) (ShortWork workMost)
-  require (leb outputMost output) (ShortOutput outputMost)
-
--- what `plan` writes with slices of these lengths
-unfoldable pub planInto : (input : List ℕ) (work output : ℕ) → Checked (List ℕ)
-planInto input work output = do
-  _ ← planSlices work output
-  accepted (planReply input)
-
--- the working slice after `plan` has written, or refused its slices
-abbrev pub PlanWork : (input : List ℕ) (work output : ℕ) (before after : List ℕ) → Type 0
-PlanWork input work output before after = WorkAfter (planSlices work output >>= (λ _. planInput input)) before after
 
 -- A reply in a slice that is long enough, as the inner functions answer it: it stands at the slice's start, its length is the
 -- answer, and "bytes .. past the written length don't change".

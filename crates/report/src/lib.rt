@@ -1,11 +1,10 @@
 // What the programs `check` and `plan` write: the definitions, their laws, and the types of the answers.
-use placement::Order;
 use refusal::Refusal;
 
 // The bytes that `check` asks for: every line is shorter.
 pub const LINE_NEEDED: usize = 200;
 
-// The entries that `plan` asks for: no order needs more.
+// The entries that `plan` works in: no order needs more.
 pub const WORK_MOST: usize = 20_485;
 
 // The bytes that `plan` asks for: no order needs more.
@@ -24,17 +23,5 @@ pub struct Summary {
 // What a reply gives: how many bytes were written, or the refusal of a lent slice that is too short.
 pub enum Reply {
     Written(usize),
-    Refused(Refusal),
-}
-
-// The order that `plan` reads, and the place of the pack after it.
-pub struct OrderReading {
-    pub order: Order,
-    pub at: usize,
-}
-
-// What reading an order gives: the order with the place of the pack, or the refusal.
-pub enum OrderRead {
-    Value(OrderReading),
     Refused(Refusal),
 }

@@ -1,4 +1,5 @@
 pub mod Lines
+pub mod Places
 pub mod Numbers
 pub mod Printed
 pub mod RoundTrip

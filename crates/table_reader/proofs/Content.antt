@@ -1,11 +1,11 @@
 -- What a line adds, from its word and the numbers that were read after the head's. Assumes nothing.
-use Prim.Native.Nat.{ℕ, _+_, _-_, _≤_, _<_}
+use Prim.Native.Nat.{ℕ, _-_, _≤_}
 use native.Mathlib.Omega.{arith}
-use mathlib.Core.Path.{_≡_, refl, sym, _∙_, ap, subst}
-use mathlib.Core.Bool.{Bool, true, false, _&&_}
+use mathlib.Core.Path.{_≡_, refl, sym, _∙_}
+use mathlib.Core.Bool.{true}
 use mathlib.Core.List.{List, [], _∷_, _++_}
 use mathlib.Core.Option.{Option, none, some}
-use lib.ListN.{length, take, drop, length-append, length-drop}
+use lib.ListN.{length, take, drop, length-drop}
 use lib.Seq.{length-take-le, take-at, drop-at}
 use lib.Dec.{eqb}
 use Rattle.lists.proofs.Writing.{take-drop-rest}
@@ -20,7 +20,8 @@ use Rattle.table.specs.declared.Added.the-variants.{To, Bad}
 use Rattle.table.specs.Told.{unreadable}
 use Rattle.table.specs.Lines.{begins, letters, wordOf, readNumbers, before}
 use Rattle.table.specs.Reading.{Draft, addTable, addOut, addLayer, addBlock, addNumbers, addRead, addContent, addLine}
-use Rattle.table.specs.Progress.{Kept, Finds, Room, Grown, Adds, NumbersIn, draftOf, foundIn}
+use Rattle.table.proofs.Places.{before-length, before-take}
+use Rattle.table.specs.Progress.{Kept, Finds, Grown, Adds, NumbersIn, draftOf, foundIn}
 
 -- a line is as long as the word that it begins with
 begins-length : (word line : List ℕ) → begins word line ≡ true → length word ≤ length line
@@ -39,21 +40,6 @@ word-inside line =
     cond-elim (Fits line) (begins (letters Table) line) (begins-length (letters Table) line) λ _.
     cond-elim (Fits line) (begins (letters Out) line) (begins-length (letters Out) line) λ _.
     cond-elim (Fits line) (begins (letters Mu) line) (begins-length (letters Mu) line) λ _. omega arith
-
--- what is before a byte is the start of the bytes
-pub before-length : (byte : ℕ) (bytes : List ℕ) → length (before byte bytes) ≤ length bytes
-unfolding before
-before-length byte [] = omega arith
-before-length byte (b ∷ bytes) =
-    cond-elim (λ l. length l ≤ length (b ∷ bytes)) (eqb b byte) {x = []} {y = b ∷ before byte bytes} (λ _. omega arith)
-    (λ _. let h = before-length byte bytes in omega arith)
-
-pub before-take : (byte : ℕ) (bytes : List ℕ) → take (length (before byte bytes)) bytes ≡ before byte bytes
-unfolding before
-before-take byte [] = refl
-before-take byte (b ∷ bytes) =
-    cond-elim (λ l. take (length l) (b ∷ bytes) ≡ l) (eqb b byte) {x = []} {y = b ∷ before byte bytes} (λ _. refl)
-    (λ _. ap (λ l. b ∷ l) (before-take byte bytes))
 
 -- a line's comment: what is before it
 pub comment-inside : (bytes : List ℕ) {end : ℕ} → end ≡ length (before 35 bytes) → end ≤ length bytes

@@ -1,70 +1,23 @@
 -- Reading a text line by line: what is left of it answers for the whole. Assumes nothing.
-use Prim.Native.Nat.{ℕ, zero, suc, _+_, _*_, _-_, _≤_, _<_}
+use Prim.Native.Nat.{ℕ, suc, _+_, _-_, _≤_, _<_}
 use native.Mathlib.Omega.{arith}
 use native.Mathlib.Numerals.{add-one}
-use mathlib.Core.Path.{_≡_, refl, sym, _∙_, ap}
-use mathlib.Core.Bool.{Bool, true, false, cond}
-use mathlib.Core.List.{List, [], _∷_, _++_}
-use lib.ListN.{length, take, drop, set, length-drop}
-use lib.Seq.{drop-drop, take-suc-set}
-use lib.Dec.{leb, ltb, eqb, leb·suc-suc, leb·zero}
-use borrow.Author.Tests.{le-leb, lt-leb, lt-ltb, le-ltb, leb-true, leb-false, eq-eqb, ne-eqb}
+use mathlib.Core.Path.{_≡_, refl, _∙_}
+use mathlib.Core.List.{List, [], _∷_}
+use lib.ListN.{length, take, drop, set}
+use lib.Seq.{take-suc-set}
+use lib.Dec.{leb·zero}
+use borrow.Author.Tests.{lt-leb, lt-ltb, le-ltb, eq-eqb, ne-eqb}
 use Rattle.table.specs.declared.Fault.{Fault}
 use Rattle.table.specs.declared.Progress.{Progress}
 use Rattle.table.specs.declared.Added.{Added}
 use Rattle.table.specs.declared.Added.the-variants.{To, Bad}
 use Rattle.table.specs.Told.{Told, good, bad, _>>=_, endsEarly}
-use Rattle.table.specs.Lines.{startLine, linesOf, before}
-use Rattle.table.specs.Reading.{Draft, startDraft, addLine, readLines, readText}
+use Rattle.table.specs.Lines.{before}
+use Rattle.table.specs.Reading.{Draft, addLine, readLines, readText}
 use Rattle.table.specs.Progress.{Kept, Room, Grown, draftOf}
 use Rattle.lists.proofs.Writing.{take-drop-rest}
-use Rattle.table_reader.proofs.Content.{before-length, before-take}
-
--- the lines after the first
-abbrev othersOf : List ℕ → List (List ℕ)
-othersOf text =
-    cond (ltb (length (before 10 text)) (length text)) (linesOf (drop (suc (length (before 10 text))) text)) []
-
--- a text is its first line, up to a newline or the end, and the others
-lines-first : (text : List ℕ) → linesOf text ≡ before 10 text ∷ othersOf text
-unfolding linesOf before
-lines-first [] = refl
-lines-first (byte ∷ text) = go (eqb byte 10) refl (lines-first text)
-  where
-    go : (b : Bool) → eqb byte 10 ≡ b → linesOf text ≡ before 10 text ∷ othersOf text
-        → cond b ([] ∷ linesOf text) (startLine byte (linesOf text))
-        ≡ cond b [] (byte ∷ before 10 text)
-        ∷ cond (ltb (length (cond b [] (byte ∷ before 10 text))) (suc (length text)))
-        (linesOf (drop (suc (length (cond b [] (byte ∷ before 10 text)))) (byte ∷ text))) []
-    go true e ih = rw (lt-ltb 0 (suc (length text)) (omega arith))
-    go false e ih = rw (ih, leb·suc-suc (suc (length (before 10 text))) (length text)) refl
-
--- the lines from a place on; none past the end
-abbrev pub linesFrom : (at : ℕ) (text : List ℕ) → List (List ℕ)
-linesFrom at text = cond (leb at (length text)) (linesOf (drop at text)) []
-
-module _ (text : List ℕ) (at : ℕ) (more : at ≤ length text) where
-  abbrev size : ℕ
-  size = length (before 10 (drop at text))
-
-  pub line-within : at + size ≤ length text
-  line-within = omega (arith, before-length 10 (drop at text), length-drop at text)
-
-  -- the line at this place, and those after its newline
-  lines-at : linesFrom at text ≡ before 10 (drop at text) ∷ linesFrom (at + size + 1) text
-  lines-at = rw (le-leb at (length text) more) (lines-first (drop at text) ∙ ap (λ l. before 10 (drop at text) ∷ l) after)
-    where
-      after : othersOf (drop at text) ≡ linesFrom (at + size + 1) text
-      after = go (leb (at + size + 1) (length text)) refl
-        where
-          go : (b : Bool) → leb (at + size + 1) (length text) ≡ b → othersOf (drop at text) ≡ cond b (linesOf (drop (at + size + 1) text)) []
-          go true e =
-              let inside = leb-true (at + size + 1) (length text) e in
-              let same : at + suc size ≡ at + size + 1 = omega arith in
-              rw (lt-ltb size (length (drop at text)) (omega (arith, length-drop at text)), drop-drop (suc size) at text, same) refl
-          go false e =
-              let outside = leb-false (at + size + 1) (length text) e in
-              rw (le-ltb size (length (drop at text)) (omega (arith, length-drop at text))) refl
+use Rattle.table.proofs.Places.{linesFrom, lines-at, line-within, before-take}
 
 -- Before each turn: so many lines are read, and those from place `at` on answer for the whole text.
 pub record ReadTurn (text numbers rows lines : List ℕ) (p : Progress) (at line : ℕ) : Type 0 where
@@ -138,7 +91,7 @@ module _ {text numbers rows lines : List ℕ} {p : Progress} {at line : ℕ} (tu
     whole : take (length text - at) (drop at text) ≡ drop at text
     whole = take-drop-rest text at
 
-    first-size : first ≡ size text at more
+    first-size : first ≡ length (before 10 (drop at text))
     first-size = rw (← whole) first-is
 
     pub end-within : end ≤ length text
@@ -146,14 +99,14 @@ module _ {text numbers rows lines : List ℕ} {p : Progress} {at line : ℕ} (tu
 
     the-line : take (end - at) (drop at text) ≡ before 10 (drop at text)
     the-line =
-        let e : end - at ≡ size text at more = omega (arith, first-size) in
+        let e : end - at ≡ length (before 10 (drop at text)) = omega (arith, first-size) in
         rw e (before-take 10 (drop at text))
 
     step : readText text
         ≡ (addLine (line + 1) (take (end - at) (drop at text)) (draftOf p numbers rows lines) >>= readLines (suc (line + 1)) (linesFrom (end + 1) text))
     unfolding readLines
     step =
-        let e : at + size text at more + 1 ≡ end + 1 = omega (arith, first-size) in
+        let e : at + length (before 10 (drop at text)) + 1 ≡ end + 1 = omega (arith, first-size) in
         turn .same ∙ rw (lines-at text at more, e, the-line, add-one line) refl
 
     module _ (added : Added) (numbers′ rows′ lines′ : List ℕ)

@@ -7,6 +7,7 @@ use crate::script::byte_of;
 use crate::script::part_of;
 use operators::SharedOrder;
 use packing::RowFound;
+use placement::FeederTable;
 ghost use Prim.Native.Nat.{_≤_, _<_};
 
 // The packing test of layer x on c rows of r nodes, where the rows stand in the bytes and are in order.
@@ -70,12 +71,40 @@ fn pack(input: &[u8], out: &mut [u8]) -> [usize; 19] {
     answers::pack_checked(check)
 }
 
-// Checking a placement; its list is put into the output.
+// Puts the bytes into the output, as far as it reaches.
+fn put_bytes(bytes: &[u8], out: &mut [u8]) {
+    let room = out.len();
+    if bytes.len() < room {
+        rows_writer::copy_bytes(out, bytes);
+        return;
+    }
+    rows_writer::copy_bytes(out, &bytes[0..room]);
+}
+
+// Puts how many feeders there are and that of each node into the output, as far as it reaches.
+fn put_feeders(number: usize, each: &[u8], out: &mut [u8]) {
+    put_nodes(1, &[number], out);
+    if 1 <= out.len() {
+        put_bytes(each, &mut out[1..]);
+    }
+}
+
+// Puts the feeders after a list of so many nodes.
+fn put_after(count: usize, feeders: FeederTable, out: &mut [u8]) {
+    let number = feeders.number;
+    let each = feeders.each;
+    if count < out.len() {
+        put_feeders(number, &each, &mut out[count + 1..]);
+    }
+}
+
+// Checking a placement; its list is put into the output, and its feeders after it.
 fn placement(input: &[u8], out: &mut [u8]) -> [usize; 19] {
     let check = placement_code::check_placement(input);
     let dark = check.dark;
     let nodes = dark.nodes;
     put_list(dark.count, &nodes, out);
+    put_after(dark.count, check.feeders, out);
     answers::placement_checked(check)
 }
 
@@ -118,12 +147,12 @@ fn commit(given: Given, input: &[u8], out: &mut [u8]) -> [usize; 19] {
     answers::plan_result(commit_code::commit(input, given.a, given.b, given.c, counts, out))
 }
 
-// What the programs say.
-fn replied(call: usize, input: &[u8], work: &mut [u16], out: &mut [u8]) -> [usize; 19] {
+// What the programs say, `plan` with no argument.
+fn replied(call: usize, input: &[u8], out: &mut [u8]) -> [usize; 19] {
     if call == 12 {
         return answers::replied(report_check::check_reply(input, out));
     }
-    answers::replied(report_plan::plan_reply(input, work, out))
+    answers::replied(reply_plan::plan_reply(b"", input, out))
 }
 
 // Puts the entries into the output, two bytes each, lowest first, as far as it reaches.
@@ -182,7 +211,7 @@ pub(crate) fn answer(
         9 => answers::number_written(number_writer::write_number(out, given.a)),
         10 => plan(given, input, work, out),
         11 => crate::walks::walked(input, out),
-        12 | 13 => replied(call, input, work, out),
+        12 | 13 => replied(call, input, out),
         14 => curve(input, work, out),
         15 => join(given, input, out),
         16 => plan_operator(given, input, work, out),

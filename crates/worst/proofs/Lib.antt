@@ -13,3 +13,4 @@ pub mod Whole
 pub mod Binomials
 pub mod Call
 pub mod Worked
+pub mod Good
