@@ -5,7 +5,7 @@ cd "$(dirname "$0")" || exit 2
 . .ci/machine
 names='check plan'
 if [ "$1" = all ]; then
-    names='check plan pack table curve worst page ask commit operator certify join rounds replay'
+    names='check plan pack table rows listing curve worst page ask commit operator certify join rounds replay'
 fi
 mkdir -p target/programs
 log=target/demo.log

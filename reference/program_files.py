@@ -6,8 +6,10 @@ import sys
 from pathlib import Path
 
 from bare import BARE_DARK
+from cases import padded
 from logs import replay_reply
 from replies import REPLIES, join_reply
+from rows_text import listing_reply
 from seven import DARK_P, FED_NINE, NINE, P
 
 # the crate of each program, its arguments, and standard input
@@ -22,6 +24,8 @@ RUNS = {
     "certify": ((), BARE_DARK),
     "operator": (("2", "3", "9", "4096"), P),
 }
+# every number of the head in two groups
+LISTED = list(padded(BARE_DARK, 9))[9]
 FILES = {"first.pack": P, "second.pack": DARK_P, "third.pack": P}
 LOG = b"""# time node down|up
 7 0 down
@@ -49,6 +53,7 @@ def main(crates):
     for name, (arguments, data) in RUNS.items():
         reply = REPLIES[name]([word.encode() for word in arguments], data)
         store(Path(crates) / f"{name}_main", arguments, data, reply)
+    store(Path(crates) / "listing_main", (), LISTED, listing_reply(LISTED))
     store(Path(crates) / "join_main", tuple(FILES), None, join_reply(list(FILES.values())), FILES)
     store(Path(crates) / "replay_main", ("storm.log",), NINE, replay_reply([LOG], NINE), {"storm.log": LOG})
 

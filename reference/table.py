@@ -6,10 +6,10 @@ WORDS = (b"table", b"out", b"mu")
 TEXT_MOST = 131_072
 
 
-def content(line):
+def content(line, words=WORDS):
     """A line's word and numbers; None where it can't be read."""
     line = line.split(b"#")[0]
-    word = next((w for w in WORDS if line.startswith(w)), b"")
+    word = next((w for w in words if line.startswith(w)), b"")
     rest = line[len(word):]
     for blank in BLANKS:
         rest = rest.replace(bytes([blank]), b" ")
@@ -84,29 +84,41 @@ def make_pack(text):
     return pack
 
 
-def pack_reply(text):
-    """What the program `pack` writes."""
+def or_refused(write, given):
+    """What `write` makes of what is given, or the line of the refusal."""
     try:
-        return make_pack(text)
+        return write(given)
     except Refused as e:
         return f"refused {e.number} {e.place}\n".encode()
 
 
+def pack_reply(text):
+    """What the program `pack` writes."""
+    return or_refused(make_pack, text)
+
+
+def printed(word, numbers):
+    """A line as it is printed."""
+    return word + "".join(f" {v}" for v in numbers) + "\n"
+
+
+def printed_out(dark):
+    """The line of the nodes out of service, where there are any."""
+    return printed("out", dark) if dark else ""
+
+
+def printed_rows(rows):
+    return "".join(printed("", row) for row in rows)
+
+
 def table_text(pack):
     """An accepted pack as text."""
-    def line(word, numbers):
-        return word + "".join(f" {v}" for v in numbers) + "\n"
-    text = line("table", [pack["n"], pack["r"]])
-    if pack["dark"]:
-        text += line("out", pack["dark"])
+    text = printed("table", [pack["n"], pack["r"]]) + printed_out(pack["dark"])
     for mu, blocks in pack["layers"]:
-        text += line("mu", [mu]) + "".join(line("", block) for block in blocks)
+        text += printed("mu", [mu]) + printed_rows(blocks)
     return text.encode()
 
 
 def table_reply(data):
     """What the program `table` writes."""
-    try:
-        return table_text(check_pack(data))
-    except Refused as e:
-        return f"refused {e.number} {e.place}\n".encode()
+    return or_refused(lambda pack: table_text(check_pack(pack)), data)

@@ -6,6 +6,7 @@ pub mod Certified
 pub mod Highest
 pub mod Most
 pub mod Packed
+pub mod Prefix
 pub mod Shares
 pub mod Taken
 pub mod Worked

@@ -16,7 +16,7 @@ use Rattle.table.specs.Printing.{textLine, outText, layerText, tableText
 use Rattle.table.proofs.Numbers.{tens, decimal-short}
 
 -- numbers of up to three digits, with a space each, and the newline
-rest-nodes : (nodes : List ℕ) → All (λ v. v < 1_000) nodes → length (rest nodes) ≤ 4 * length nodes + 1
+pub rest-nodes : (nodes : List ℕ) → All (λ v. v < 1_000) nodes → length (rest nodes) ≤ 4 * length nodes + 1
 unfolding rest tens
 rest-nodes [] h = omega arith
 rest-nodes (v ∷ nodes) h =
@@ -27,7 +27,7 @@ module _ (n r : ℕ) (n-most : n ≤ 255) (r-most : r ≤ 5) where
   nodes-short : (nodes : List ℕ) → T (inOrder n nodes) → All (λ v. v < 1_000) nodes
   nodes-short nodes t = all-imp (λ v. v < n) (λ v. v < 1_000) (λ v h. omega arith) nodes (dark-below n nodes t)
 
-  blocks-length : (rows : List (List ℕ)) → All (Row n r) rows → length (flatten (map (textLine Plain) rows)) ≤ 21 * length rows
+  pub blocks-length : (rows : List (List ℕ)) → All (Row n r) rows → length (flatten (map (textLine Plain) rows)) ≤ 21 * length rows
   unfolding flatten
   blocks-length [] h = omega arith
   blocks-length (row ∷ rows) h =
@@ -56,7 +56,7 @@ module _ (n r : ℕ) (n-most : n ≤ 255) (r-most : r ≤ 5) where
         layers-length ls (all-append-right (Row n r) (layer .rows) (allRows ls) rows) (bounds .1),
       )
 
-  out-length : (dark : List ℕ) → T (inOrder n dark) → length (outText dark) ≤ 1_024
+  pub out-length : (dark : List ℕ) → T (inOrder n dark) → length (outText dark) ≤ 1_024
   out-length [] t = omega arith
   out-length (v ∷ dark) t =
       omega (arith, dark-count n (v ∷ dark) t, rest-nodes (v ∷ dark) (nodes-short (v ∷ dark) t))

@@ -1,14 +1,12 @@
 -- The text of a pack, from what its check hands on. Assumes nothing.
 use Prim.Native.Nat.{ℕ, zero, suc, _+_, _*_, _-_, _≤_, _<_}
 use native.Mathlib.Omega.{arith}
-use native.Mathlib.Nat.{zero-add}
 use mathlib.Core.Path.{_≡_, refl, sym, _∙_, ap}
 use mathlib.Core.List.{List, [], _∷_, _++_, map, flatten, append-nil}
 use lib.ListN.{length, take, drop, replicate, length-append, length-map, length-drop}
 use lib.Seq.{sets, take-at, take-append-le, take-take, take-length}
 use Rattle.lists.specs.Lists.{All, overStart}
 use Rattle.lists.proofs.Alls.{all-imp}
-use Rattle.lists.proofs.Stores.{sets-start}
 use Rattle.lists.proofs.Writing.{take-drop-rest}
 use borrow.Author.Tests.{lt-leb}
 use Rattle.refusal.specs.declared.Refusal.{Refusal}
@@ -33,20 +31,13 @@ use Rattle.report.specs.Programs.{rest, refusedLine, orRefusedLine}
 use Rattle.report.specs.declared.Reply.the-variants.{Written, Refused as NotWritten}
 use Rattle.report.specs.Answers.{ReplyDone}
 use Rattle.report.specs.Replies.{Replied}
-use Rattle.report.proofs.Replies.{replied-of}
 use Rattle.report_lines.specs.Put.{Put}
 use Rattle.report_lines.proofs.Lengths.{rest-most}
 use Rattle.table.specs.declared.Word.the-variants.{Table}
 use Rattle.table.specs.Printing.{textLine, outText, layerText, tableText, tableReply, tableMost, tableInto, heldText, PackHeld}
 use Rattle.table.proofs.Lengths.{text-length}
 use Rattle.table.proofs.Again.{tableInto-enough}
-use Rattle.table_printer.proofs.Stored.{put-both}
-
--- what was put from the start on is a reply
-pub put-replied : (whole before : List ℕ) {after : List ℕ} {next : ℕ} → length whole ≤ length before → Put whole before 0 next after
-    → Replied whole next before after
-put-replied whole before {after} {next} fits put =
-    replied-of whole next before after (put .ends ∙ zero-add (length whole)) (put .stored ∙ sets-start before whole fits)
+use Rattle.line_printer.proofs.Stored.{put-both, put-replied}
 
 module _ (head : PackHead) (heads : List LayerHead) (dark : Dark) (rows out : List ℕ) (held : PackHeld head heads dark rows) (room : tableMost ≤ length out) where
   abbrev first-line : List ℕ

@@ -1,36 +1,13 @@
-// The layers of a table, put into a slice that a caller lends. Each answers the place after it.
-use layers::Dark;
+// The layers of a table, put into a slice that a caller lends.
 use layers::LayerHead;
-ghost use Prim.Native.Nat.{_+_, _*_, _≤_, _<_};
+ghost use Prim.Native.Nat.{_+_, _*_, _≤_};
 ghost use mathlib.Core.List.{flatten, map};
 ghost use lib.ListN.{length, take};
-ghost use Rattle.packing.specs.Rows.{rowsAt};
 ghost use Rattle.layers.specs.Layers.{layersAt, sizes};
-ghost use Rattle.layers.specs.Answers.{darkList};
 ghost use Rattle.report_lines.specs.Put.{Put};
-ghost use Rattle.table.specs.declared.Word.the-variants.{Plain};
-ghost use Rattle.table.specs.Printing.{textLine, outText, layerText};
+ghost use Rattle.table.specs.Printing.{layerText};
 
-// Puts the lines of m blocks of r bytes each at `at`.
-fn put_blocks(out: &mut [u8], at: usize, rows: &[u8], m: usize, r: usize) -> usize
-    requires { ⌜ m * r ≤ length (now rows) ⌝ }
-    requires { ⌜ r ≤ 5 ⌝ }
-    requires { ⌜ at + length (flatten (map (textLine Plain) (rowsAt r m (now rows)))) + 128 ≤ length (now out) ⌝ }
-    ensures { λ next. ⌜ Put (flatten (map (textLine Plain) (rowsAt r m (now (rows .entry))))) (now (out .entry)) at next (now (out .exit)) ⌝ }
-{
-    let mut place = at;
-    let mut from: usize = 0;
-    let mut j: usize = 0;
-    while j < m {
-        let end = from + r;
-        place = crate::parts::put_row(out, place, &rows[from..end]);
-        from = end;
-        j += 1;
-    }
-    place
-}
-
-// Puts the layers below r at `at`: for each its mu, then its blocks.
+// Puts the layers below r at `at`: for each its mu, then its blocks. Answers the place after them.
 pub(crate) fn put_layers(
     out: &mut [u8],
     at: usize,
@@ -51,34 +28,10 @@ pub(crate) fn put_layers(
         let mu = head.bound;
         let m = head.size;
         let numbers = [mu];
-        let next = crate::parts::put_line(out, place, b"mu", &numbers);
-        place = put_blocks(out, next, &rows[from..], m, r);
+        let next = line_printer::put_line(out, place, b"mu", &numbers);
+        place = line_printer::put_rows(out, next, &rows[from..], m, r);
         from += m * r;
         x += 1;
     }
     place
-}
-
-// Puts the line of the first `count` nodes at `at`.
-fn put_listed(out: &mut [u8], at: usize, count: usize, nodes: [usize; 255]) -> usize
-    requires { ⌜ 0 < count ⌝ }
-    requires { ⌜ count ≤ 255 ⌝ }
-    requires { ⌜ at + 6_000 ≤ length (now out) ⌝ }
-    ensures { λ next. ⌜ Put (outText (take count nodes)) (now (out .entry)) at next (now (out .exit)) ⌝ }
-{
-    crate::parts::put_line(out, at, b"out", &nodes[0..count])
-}
-
-// Puts the line of the nodes out of service at `at`; nothing where there is none.
-pub(crate) fn put_out(out: &mut [u8], at: usize, dark: Dark) -> usize
-    requires { ⌜ dark .count ≤ 255 ⌝ }
-    requires { ⌜ at + 6_000 ≤ length (now out) ⌝ }
-    ensures { λ next. ⌜ Put (outText (darkList dark)) (now (out .entry)) at next (now (out .exit)) ⌝ }
-{
-    let count = dark.count;
-    let nodes = dark.nodes;
-    if count == 0 {
-        return at;
-    }
-    put_listed(out, at, count, nodes)
 }

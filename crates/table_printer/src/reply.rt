@@ -27,8 +27,8 @@ fn put_table(
     let n = head.n;
     let r = head.r;
     let numbers = [n, r];
-    let first = crate::parts::put_line(out, 0, b"table", &numbers);
-    let second = crate::layers_text::put_out(out, first, dark);
+    let first = line_printer::put_line(out, 0, b"table", &numbers);
+    let second = line_printer::put_out(out, first, dark);
     crate::layers_text::put_layers(out, second, rows, heads, r)
 }
 

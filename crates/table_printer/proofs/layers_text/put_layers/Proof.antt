@@ -40,25 +40,25 @@ put-line-requires c κs =
     let five : length (a .t4) ≡ 5 = omega (arith, s .good) in
     omega (arith, mu-room (a .t4) (a .rows .now) (a .r) (a .out .now) (a .at) five (s .pre .0) (c .before .before .before .before .before .loop .inv) (c .before .before .before .before .loop-test .taken) (s .pre .1 .1))
 
-sub-put-blocks : tie.Need-sub-put-blocks Inv-loop μ-loop
-sub-put-blocks c =
+sub-put-rows : tie.Need-sub-put-rows Inv-loop μ-loop
+sub-put-rows c =
     let s = c .before .before .before .before .before .before .before .before .before .before .before .before in
     let a = s .args in
     let five : length (a .t4) ≡ 5 = omega (arith, s .good) in
     omega (arith, layer-from (a .t4) (a .rows .now) (a .r) (a .out .now) (a .at) five (s .pre .0) (c .before .before .before .before .before .before .before .before .before .loop .inv) (c .before .before .before .before .before .before .before .before .loop-test .taken))
 
-part-put-blocks-start : tie.Need-part-put-blocks-start Inv-loop μ-loop
-part-put-blocks-start c =
+part-put-rows-start : tie.Need-part-put-rows-start Inv-loop μ-loop
+part-put-rows-start c =
     let s = c .before .before .before .before .before .before .before .before .before .before .before .before in
     let a = s .args in
     let five : length (a .t4) ≡ 5 = omega (arith, s .good) in
     omega (arith, layer-from (a .t4) (a .rows .now) (a .r) (a .out .now) (a .at) five (s .pre .0) (c .before .before .before .before .before .before .before .before .before .loop .inv) (c .before .before .before .before .before .before .before .before .loop-test .taken))
 
-part-put-blocks-end : tie.Need-part-put-blocks-end Inv-loop μ-loop
-part-put-blocks-end c = search needs
+part-put-rows-end : tie.Need-part-put-rows-end Inv-loop μ-loop
+part-put-rows-end c = search needs
 
-put-blocks-requires : tie.Need-put-blocks-requires Inv-loop μ-loop
-put-blocks-requires c κs =
+put-rows-requires : tie.Need-put-rows-requires Inv-loop μ-loop
+put-rows-requires c κs =
     let s = c .before .before .before .before .before .before .before .before .before .before .before .before .before in
     let a = s .args in
     let five : length (a .t4) ≡ 5 = omega (arith, s .good) in (
@@ -91,7 +91,7 @@ loop-again c =
     let s = c .before .before .before .before .before .before .before .before .before .before .before .before .before .before .before .before in
     let a = s .args in
     let five : length (a .t4) ≡ 5 = omega (arith, s .good) in
-    layers-next (a .t4) (a .rows .now) (a .r) (a .out .now) (a .at) five (s .pre .0) (c .before .before .before .before .before .before .before .before .before .before .before .before .before .loop .inv) (c .before .before .before .before .before .before .before .before .before .before .before .before .loop-test .taken) (s .pre .1 .1) (c .before .before .before .before .before .before .before .put-line .ensures) (c .before .before .put-blocks .ensures)
+    layers-next (a .t4) (a .rows .now) (a .r) (a .out .now) (a .at) five (s .pre .0) (c .before .before .before .before .before .before .before .before .before .before .before .before .before .loop .inv) (c .before .before .before .before .before .before .before .before .before .before .before .before .loop-test .taken) (s .pre .1 .1) (c .before .before .before .before .before .before .before .put-line .ensures) (c .before .before .put-rows .ensures)
 
 same-length : tie.Need-same-length Inv-loop μ-loop
 same-length c = c .before .loop .inv .stored .same-length
@@ -115,10 +115,10 @@ put-layers-spec =
     slice-aggregate-put-line
     slice-aggregate-put-line-2
     put-line-requires
-    sub-put-blocks
-    part-put-blocks-start
-    part-put-blocks-end
-    put-blocks-requires
+    sub-put-rows
+    part-put-rows-start
+    part-put-rows-end
+    put-rows-requires
     mul-from
     add-from
     add-x
