@@ -15,9 +15,10 @@ sys.path.insert(0, str(REPOSITORY / "reference"))
 from cases import P, check_inputs, damaged, plan_inputs, random_pack  # noqa: E402
 from chunks import join_reply, three_packs  # noqa: E402
 from document01 import check_reply, plan_reply  # noqa: E402
+from replies import REPLIES  # noqa: E402
 
 PROGRAMS = REPOSITORY / "bench" / "baseline" / "target" / "release"
-VECTORS = {"check": "check", "check_sorted": "check", "plan": "plan", "plan_candidates": "plan", "join": "join"}
+VECTORS = {"check": "check", "check_sorted": "check", "plan": "plan", "plan_candidates": "plan", "join": "join", "curve": "curve"}
 
 
 def join_inputs():
@@ -36,7 +37,8 @@ def pairs_of_replies():
     """The pairs of input and reply of each program."""
     return {"check": [(data, check_reply(data)) for data in check_inputs()],
             "plan": [(data, plan_reply(data)) for data in plan_inputs()],
-            "join": [(data, join_reply(data)) for data in join_inputs()]}
+            "join": [(data, join_reply(data)) for data in join_inputs()],
+            "curve": [(data, REPLIES["curve"]([], data)) for data in check_inputs()]}
 
 
 def differences(program, pairs):

@@ -10,7 +10,7 @@ import re
 from pathlib import Path
 
 CRATES = Path("crates")
-FUNCTION = re.compile(r"^ *(pub(?:\(\w+\))? )?fn (\w+)(?:<[^>]*>)?\(([^)]*)\)", re.MULTILINE)
+FUNCTION = re.compile(r"^ *(pub(?:\(\w+\))? )?(?:extern \"C\" )?fn (\w+)(?:<[^>]*>)?\(([^)]*)\)", re.MULTILINE)
 
 
 def functions():

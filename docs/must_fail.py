@@ -47,7 +47,7 @@ def changed(crate, replaced):
     texts = [(file, old, (CRATES / crate / file).read_text()) for file, old in replaced]
     file, old, text = [found for found in texts if found[1] in found[2]][-1]
     before = text[:text.index(old) + len(old)]
-    kinds = r"^(?:pub(?:\(\w+\))? )?fn (\w+)|^(?:pub )?(?:const|enum|struct) (\w+)" if file.endswith(".rt") \
+    kinds = r"^(?:pub(?:\(\w+\))? )?(?:extern \"C\" )?fn (\w+)|^(?:pub )?(?:const|enum|struct) (\w+)" if file.endswith(".rt") \
         else r"^ *(?:(?:unfoldable|abbrev|pub|record) )+([^\s:]+)|^([^\s:(]+)(?: [^:=\n]*)? ="
     names = [name for found in re.findall(kinds, before, re.MULTILINE) for name in found if name and name != "use"]
     return names[-1] if names else file

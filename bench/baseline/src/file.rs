@@ -44,6 +44,7 @@ pub struct Pack<'a> {
 }
 
 pub struct Placement {
+    pub kind: usize,
     pub n: usize,
     pub r: usize,
     pub s: usize,
@@ -106,7 +107,7 @@ impl Placement {
         if figure != b - lost {
             return refused(8, figure_at);
         }
-        Ok(Placement { n, r, s, k, b, figure, first, most, layers, feeders })
+        Ok(Placement { kind: base.kind, n, r, s, k, b, figure, first, most, layers, feeders })
     }
 }
 

@@ -2,6 +2,7 @@
 
 pub mod certify;
 pub mod crowding;
+pub mod curve;
 pub mod feeders;
 pub mod file;
 pub mod join;

@@ -12,6 +12,14 @@ pub fn line(word: &str, numbers: &[usize]) -> Vec<u8> {
     out
 }
 
+/// Two numbers with a space between, and a newline.
+pub fn push_pair(out: &mut Vec<u8>, first: usize, second: usize) {
+    push_decimal(out, first);
+    out.push(b' ');
+    push_decimal(out, second);
+    out.push(b'\n');
+}
+
 fn push_decimal(out: &mut Vec<u8>, mut number: usize) {
     let mut digits = [0; 20];
     let mut at = digits.len();
