@@ -5,7 +5,7 @@
 
 Nothing else compares what a C or Rust program declares with what the library has: a wrong declaration links, and goes wrong when it
 runs. So the list, the two files and every exported function of crates/export_*/ are compared here, and the numbers that the files
-name are read from the Rattle source. It needs Python's standard library alone.
+name are read from the Rattle source, but for three limits (`sizes`). It needs Python's standard library alone.
 """
 import re
 import sys
@@ -64,7 +64,10 @@ def exported():
         crate = path.relative_to(CRATES).parts[0]
         if text.count('extern "C"') != text.count("#[no_mangle]"):
             sys.exit(f"{path}: a function that is marked only in part")
-        for name, given, rest in re.findall(r'#\[no_mangle\]\npub extern "C" fn (\w+)\(([^)]*)\) -> usize(.*?)\n}', text, re.S):
+        found = re.findall(r'#\[no_mangle\]\npub extern "C" fn (\w+)\(([^)]*)\) -> usize(.*?)\n}', text, re.S)
+        if len(found) != text.count("#[no_mangle]"):
+            sys.exit(f"{path}: an exported function of another form")
+        for name, given, rest in found:
             parameters = tuple(tuple(p.strip().split(": ", 1)) for p in given.split(",") if p.strip())
             asked = re.findall(r"if answer\.len\(\) < (\d+) \{\s*return BAD_LENGTH;", rest)
             yield crate, name, parameters, int(asked[0]) if len(asked) == 1 else None
@@ -84,14 +87,14 @@ def refusals():
 
 
 def sizes():
-    """What lent slices and answers need at most: name, number, what it is."""
+    """What lent slices and answers need at most: name, number, what it is. No constant of the Rattle source has the 254 and the 4."""
     work, out = number("report", "WORK_MOST"), number("report", "OUTPUT_MOST")
     return [("BAD_LENGTH", number("exports", "BAD_LENGTH"), "returned where a slice is not as long as stated: nothing is touched"),
             ("WORK_MOST", work, "entries of a working slice that every order can be planned in"),
             ("OUTPUT_MOST", out, "bytes of an output that every placement that is planned and every joined pack fits"),
             ("CURVE_MOST", 254, "entries of an output that every curve fits"),
             ("SET_MOST", 254, "bytes of an output that every worst set fits"),
-            ("PAGE_MOST", 27 * 4097, "bytes of an output that every page fits"),
+            ("PAGE_MOST", number("call_replies", "PAGE_NEEDED"), "bytes of an output that every page fits"),
             ("LINE_NEEDED", number("report", "LINE_NEEDED"), "bytes that the certificate line asks for"),
             ("NUMBER_MOST", 4, "bytes that every number fits")]
 
@@ -100,27 +103,34 @@ def upper(name):
     return re.sub(r"(?<=[a-z])(?=[A-Z])", "_", name).upper()
 
 
-def wrapped(text, lead, width=118):
-    return textwrap.wrap(text, width, initial_indent=lead, subsequent_indent=lead, break_long_words=False)
+def wrapped(text, lead, first=None, width=117):
+    return textwrap.wrap(text, width, initial_indent=first or lead, subsequent_indent=lead, break_long_words=False)
 
 
 HEADER = """\
-/* Musseltwig for C: plans and checks placements of replicated records. Made by embedding/declarations.py: change calls.txt instead.
+/* Musseltwig for C: plans and checks placements of replicated records. Made by embedding/declarations.py: change
+ * calls.txt instead.
  *
- * A slice is a pointer and how many elements it has. No pointer is null, also where there are 0 elements. What a call may write does
- * not overlap what it reads or another slice that it may write, and nothing else touches its slices before it returns. A call keeps no
- * state, so that threads may call at the same time on slices of their own.
+ * A slice is a pointer and how many elements it has. No pointer is null, also where there are 0 elements. What a
+ * call may write does not overlap what it reads or another slice that it may write, and nothing else touches its
+ * slices before it returns. A call keeps no state, so that threads may call at the same time on slices of their own.
  *
- * Every call returns 0 for a result, or a refusal's number. For a result answer[0] is 0 and the values follow it; for a refusal
- * answer[0] is its number and answer[1] its place. Numbers of the answer past these are left as they were. A refusal leaves every
- * other slice as it was, and a result leaves what stands past the length that it gives. Where answer has fewer elements than the
- * call's constant MUSSELTWIG_.._ANSWER the call returns MUSSELTWIG_BAD_LENGTH and touches nothing. docs/FORMATS.md has the files, the
- * refusals and what each call promises; docs/EMBEDDING.md what is proved of the calls. */
+ * Every call returns 0 for a result, or a refusal's number. For a result answer[0] is 0 and the values follow it;
+ * for a refusal answer[0] is its number and answer[1] its place. Numbers of the answer past these are left as they
+ * were. A refusal leaves every other slice as it was, and a result leaves what stands past the length that it gives.
+ * Where answer has fewer elements than the call's constant MUSSELTWIG_.._ANSWER the call returns
+ * MUSSELTWIG_BAD_LENGTH and touches nothing; so does musseltwig_replay where the three slices of its log are not
+ * equally long. docs/FORMATS.md has the files, the refusals and what each call promises; docs/EMBEDDING.md what is
+ * proved of the calls. */
 #ifndef MUSSELTWIG_H
 #define MUSSELTWIG_H
 
 #include <stddef.h>
 #include <stdint.h>
+
+#if SIZE_MAX != UINT64_MAX
+#error "libmusseltwig.a is for x86-64 Linux"
+#endif
 
 #ifdef __cplusplus
 extern "C" {
@@ -137,7 +147,8 @@ def header(calls):
     lines += [f"#define {PREFIX.upper()}_{c.constant()} {c.answer}" for c in calls]
     for c in calls:
         parameters = [C_TYPES[t].format(name) for name, t in c.parameters + [ANSWER]]
-        lines += ["", f"/* {c.does}", f" * Answer: 0, {c.gives} */"]
+        lines += ["", *wrapped(c.does, " * ", "/* "), *wrapped(f"Answer: 0, {c.gives}", " * ")]
+        lines[-1] += " */"
         whole = [p.replace(" ", "~") for p in ", ".join(parameters).split(", ")]
         declared = textwrap.wrap(f"size_t {PREFIX}_{c.name}({', '.join(whole)});", 120, subsequent_indent="    ")
         lines += [line.replace("~", " ") for line in declared]
@@ -157,7 +168,7 @@ def raw(calls):
     lines += ["];", "", 'extern "C" {']
     for c in calls:
         parameters = ", ".join(RUST_TYPES[t].format(name) for name, t in c.parameters + [ANSWER]).split(", ")
-        lines += wrapped(f"{c.does} Answer: 0, {c.gives}", "    /// ")
+        lines += wrapped(f"{c.does} Answer: 0, {c.gives}".replace(f"{PREFIX.upper()}_", ""), "    /// ")
         whole = f"    pub fn {PREFIX}_{c.name}({', '.join(parameters)}) -> usize;"
         apart = [f"    pub fn {PREFIX}_{c.name}(", *(f"        {p}," for p in parameters), "    ) -> usize;"]
         lines += [whole] if len(whole) <= 120 else apart

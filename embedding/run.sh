@@ -1,6 +1,6 @@
 #!/bin/sh
 # Everything of the library for C and Rust, from a fresh clone: proves and builds it, holds the declarations to the Rattle source, runs
-# the vectors through C and Rust and the two examples. It needs rt, Python 3, gcc, ar and cargo, and no network.
+# the vectors through C and Rust, the two examples, and README's own commands. It needs rt, Python 3, gcc, ar and cargo, and no network.
 set -e
 cd "$(dirname "$0")/.."
 made=target/embedding
@@ -13,9 +13,14 @@ $made/vectors crates/vectors_test/stdin 4
 gcc $sanitize embedding/c/example.c $made/libmusseltwig.a -o $made/example
 export CARGO_TARGET_DIR="$PWD/$made/cargo"
 cargo test --quiet --offline --release --manifest-path embedding/rust/Cargo.toml -- --nocapture
-expected='5 of 9 records stay usable whichever 3 cabinets fail
-accepted 5 9 3 7 4 4'
-for told in "$($made/example)" "$(cargo run --quiet --offline --release --manifest-path embedding/rust/Cargo.toml --example plan)"; do
-    [ "$told" = "$expected" ] || { echo "an example printed: $told"; exit 1; }
-done
+# README's section: its three commands as they are written, and the lines that it says each example prints
+section=$(sed -n '/^## Use it from C or Rust/,/^## The files/s/^    //p' README.md)
+commands=$(echo "$section" | grep -E '^(gcc -I|target/embedding/nine|cargo run --offline --manifest-path embedding/rust)' || :)
+printed=$(echo "$section" | grep -vE '^(gcc|target|cargo|embedding)' || :)
+[ "$(echo "$commands" | wc -l)" = 3 ] || { echo "README's section has other commands: $commands"; exit 1; }
+told=$($made/example)
+[ "$told" = "$printed" ] || { echo "the example printed: $told"; exit 1; }
+told=$(sh -ec "$commands")
+[ "$told" = "$printed
+$printed" ] || { echo "README's commands printed: $told"; exit 1; }
 echo "embedding: all of it runs"

@@ -49,13 +49,13 @@ static void fill(struct state *s, const struct lent *l, uint8_t byte)
         s->answer[i] = MARK;
 }
 
-/* whether nothing but the first `out` bytes, `free` entries and `told` numbers differs from what the slices were filled with */
-static int kept(const struct state *s, const struct lent *l, uint8_t byte, size_t out, size_t free, size_t told)
+/* whether nothing but the first `out` bytes, `changed` entries and `told` numbers differs from what the slices were filled with */
+static int kept(const struct state *s, const struct lent *l, uint8_t byte, size_t out, size_t changed, size_t told)
 {
     for (size_t i = out; i < l->room + PAST; i++)
         if (s->out[i] != byte)
             return 0;
-    for (size_t i = free; i < l->entries + PAST; i++)
+    for (size_t i = changed; i < l->entries + PAST; i++)
         if (s->work[i] != 257u * byte)
             return 0;
     for (size_t i = told; i < ANSWER_LONG; i++)
@@ -79,7 +79,7 @@ static int run_call(struct state *s, const struct call *call, const uint64_t *gi
     for (size_t i = 0; i < NUMBERS; i++)
         if (s->got[i] != expected[i])
             return 0;
-    size_t out = given[6], free = given[8];
+    size_t out = given[6], changed = given[8];
     if (call->figures) { /* they stand in the working slice, and the vector has them as bytes */
         for (size_t i = 0; i < out / 2; i++)
             if (s->work[i] != s->written[2 * i] + 256 * s->written[2 * i + 1])
@@ -92,7 +92,7 @@ static int run_call(struct state *s, const struct call *call, const uint64_t *gi
                 return 0;
         out = 0;
     }
-    return kept(s, &l, byte, out, free, l.told) && memcmp(s->out, s->written, out) == 0;
+    return kept(s, &l, byte, out, changed, l.told) && memcmp(s->out, s->written, out) == 0;
 }
 
 static void run(struct state *s)
@@ -140,6 +140,10 @@ static void *thread(void *s)
 
 int main(int argc, char **argv)
 {
+    int asked = argc > 2 ? atoi(argv[2]) : 1;
+    if (asked < 1)
+        return 2;
+    size_t threads = (size_t)asked, wrong = 0;
     FILE *f = argc > 1 ? fopen(argv[1], "rb") : NULL;
     if (!f || fseek(f, 0, SEEK_END))
         return 2;
@@ -149,7 +153,6 @@ int main(int argc, char **argv)
     if (!file || fread(file, 1, (size_t)size, f) != (size_t)size)
         return 2;
     fclose(f);
-    size_t threads = argc > 2 ? (size_t)atoi(argv[2]) : 1, wrong = 0;
     struct state *states = calloc(threads, sizeof *states);
     pthread_t *ids = calloc(threads, sizeof *ids);
     if (!states || !ids)

@@ -1,19 +1,26 @@
-/* Musseltwig for C: plans and checks placements of replicated records. Made by embedding/declarations.py: change calls.txt instead.
+/* Musseltwig for C: plans and checks placements of replicated records. Made by embedding/declarations.py: change
+ * calls.txt instead.
  *
- * A slice is a pointer and how many elements it has. No pointer is null, also where there are 0 elements. What a call may write does
- * not overlap what it reads or another slice that it may write, and nothing else touches its slices before it returns. A call keeps no
- * state, so that threads may call at the same time on slices of their own.
+ * A slice is a pointer and how many elements it has. No pointer is null, also where there are 0 elements. What a
+ * call may write does not overlap what it reads or another slice that it may write, and nothing else touches its
+ * slices before it returns. A call keeps no state, so that threads may call at the same time on slices of their own.
  *
- * Every call returns 0 for a result, or a refusal's number. For a result answer[0] is 0 and the values follow it; for a refusal
- * answer[0] is its number and answer[1] its place. Numbers of the answer past these are left as they were. A refusal leaves every
- * other slice as it was, and a result leaves what stands past the length that it gives. Where answer has fewer elements than the
- * call's constant MUSSELTWIG_.._ANSWER the call returns MUSSELTWIG_BAD_LENGTH and touches nothing. docs/FORMATS.md has the files, the
- * refusals and what each call promises; docs/EMBEDDING.md what is proved of the calls. */
+ * Every call returns 0 for a result, or a refusal's number. For a result answer[0] is 0 and the values follow it;
+ * for a refusal answer[0] is its number and answer[1] its place. Numbers of the answer past these are left as they
+ * were. A refusal leaves every other slice as it was, and a result leaves what stands past the length that it gives.
+ * Where answer has fewer elements than the call's constant MUSSELTWIG_.._ANSWER the call returns
+ * MUSSELTWIG_BAD_LENGTH and touches nothing; so does musseltwig_replay where the three slices of its log are not
+ * equally long. docs/FORMATS.md has the files, the refusals and what each call promises; docs/EMBEDDING.md what is
+ * proved of the calls. */
 #ifndef MUSSELTWIG_H
 #define MUSSELTWIG_H
 
 #include <stddef.h>
 #include <stdint.h>
+
+#if SIZE_MAX != UINT64_MAX
+#error "libmusseltwig.a is for x86-64 Linux"
+#endif
 
 #ifdef __cplusplus
 extern "C" {
@@ -87,16 +94,18 @@ extern "C" {
 size_t musseltwig_check_pack(const uint8_t *pack, size_t pack_length, uint64_t *answer, size_t answer_length);
 
 /* Checks a placement.
- * Answer: 0, the kind, n, r, s, k, b, F, the first row's place, lambda and c of five layers, how many nodes are out of service, and these; in kind 6 then g and the feeder of each node. */
+ * Answer: 0, the kind, n, r, s, k, b, F, the first row's place, lambda and c of five layers, how many nodes are out
+ * of service, and these; in kind 6 then g and the feeder of each node. */
 size_t musseltwig_check_placement(const uint8_t *placement, size_t placement_length, uint64_t *answer,
     size_t answer_length);
 
-/* Plans b records on a pack; work has at least s * (b + 1) entries, which are free afterwards, out 448 + b * r bytes.
+/* Plans b records on a pack; work has at least s * (b + 1) entries, free afterwards, out at least 448 + b * r bytes.
  * Answer: 0, the placement's length in out, F, and the counts of five layers. */
 size_t musseltwig_plan(const uint8_t *pack, size_t pack_length, uint64_t s, uint64_t k, uint64_t b, uint16_t *work,
     size_t work_length, uint8_t *out, size_t out_length, uint64_t *answer, size_t answer_length);
 
-/* Plans one of two operators alone, as many records as it is granted beside the other's wish.
+/* Plans one of two operators alone, as many records as it is granted beside the other's wish; work and out as in
+ * musseltwig_plan, with the grant as b.
  * Answer: 0, the placement's length in out, F, and the counts of five layers. */
 size_t musseltwig_plan_operator(const uint8_t *pack, size_t pack_length, uint64_t s, uint64_t k, uint64_t wish,
     uint64_t other, uint16_t *work, size_t work_length, uint8_t *out, size_t out_length, uint64_t *answer,
@@ -112,22 +121,24 @@ size_t musseltwig_ask(const uint8_t *pack, size_t pack_length, uint64_t s, uint6
 size_t musseltwig_commit(const uint8_t *pack, size_t pack_length, uint64_t s, uint64_t k, uint64_t b,
     const uint64_t counts[5], uint8_t *out, size_t out_length, uint64_t *answer, size_t answer_length);
 
-/* Certifies a file of bare rows: writes the placement with these rows, all in the layer with the highest figure; out as in musseltwig_plan.
+/* Certifies a file of bare rows: writes the placement with these rows, all in the layer with the highest figure; out
+ * as in musseltwig_plan.
  * Answer: 0, the placement's length in out, F, and the counts of five layers: b in the layer taken, 0 in the others. */
 size_t musseltwig_certify(const uint8_t *rows, size_t rows_length, uint8_t *out, size_t out_length, uint64_t *answer,
     size_t answer_length);
 
-/* Joins one pack: rewrites it as a pack of kind 4.
+/* Joins one pack: rewrites it as kind 4; out has room for the joined pack: MUSSELTWIG_OUTPUT_MOST bytes always do.
  * Answer: 0, the joined pack's length in out. */
 size_t musseltwig_join_one(const uint8_t *first, size_t first_length, uint8_t *out, size_t out_length, uint64_t *answer,
     size_t answer_length);
 
-/* Joins two packs; the second's nodes come after the first's.
+/* Joins two packs; the second's nodes come after the first's; out as in musseltwig_join_one. A place in a pack
+ * counts from the first byte of the pack that is refused, the first that is not accepted.
  * Answer: 0, the joined pack's length in out. */
 size_t musseltwig_join_two(const uint8_t *first, size_t first_length, const uint8_t *second, size_t second_length,
     uint8_t *out, size_t out_length, uint64_t *answer, size_t answer_length);
 
-/* Joins three packs.
+/* Joins three packs, as musseltwig_join_two joins two.
  * Answer: 0, the joined pack's length in out. */
 size_t musseltwig_join_three(const uint8_t *first, size_t first_length, const uint8_t *second, size_t second_length,
     const uint8_t *third, size_t third_length, uint8_t *out, size_t out_length, uint64_t *answer, size_t answer_length);
@@ -137,7 +148,7 @@ size_t musseltwig_join_three(const uint8_t *first, size_t first_length, const ui
 size_t musseltwig_curve(const uint8_t *placement, size_t placement_length, uint16_t *out, size_t out_length,
     uint64_t *answer, size_t answer_length);
 
-/* Finds the true worst case over all sets of k nodes, in kind 6 of k feeders, and writes the first such set as k bytes.
+/* Finds the true worst case over all sets of k nodes, in kind 6 feeders, and writes the first such set as k bytes.
  * Answer: 0, the fewest usable records. */
 size_t musseltwig_worst_case(const uint8_t *placement, size_t placement_length, uint8_t *out, size_t out_length,
     uint64_t *answer, size_t answer_length);
@@ -147,8 +158,10 @@ size_t musseltwig_worst_case(const uint8_t *placement, size_t placement_length, 
 size_t musseltwig_rounds(const uint8_t *placement, size_t placement_length, uint64_t q, uint64_t *answer,
     size_t answer_length);
 
-/* Runs an outage log: event i is at times[i], of nodes[i], which goes down where downs[i] is not 0 and else comes up.
- * Answer: 0, the lowest number of usable records and the first event after which it stood; for an empty log the number alone. */
+/* Runs an outage log: event i is at times[i], of nodes[i], which goes down where downs[i] is not 0 and else comes
+ * up; the three slices are equally long, else MUSSELTWIG_BAD_LENGTH.
+ * Answer: 0, the lowest number of usable records and the first event after which it stood; for an empty log the
+ * number alone. */
 size_t musseltwig_replay(const uint8_t *placement, size_t placement_length, const uint32_t *times, size_t times_length,
     const uint8_t *nodes, size_t nodes_length, const uint8_t *downs, size_t downs_length, uint64_t *answer,
     size_t answer_length);
@@ -158,7 +171,8 @@ size_t musseltwig_replay(const uint8_t *placement, size_t placement_length, cons
 size_t musseltwig_page(const uint8_t *placement, size_t placement_length, uint8_t *out, size_t out_length,
     uint64_t *answer, size_t answer_length);
 
-/* Writes the certificate line, `accepted F b k n most mean` or `refused number place`, and a newline; out has at least 200 bytes.
+/* Writes the certificate line, `accepted F b k n most mean` or `refused number place`, and a newline; out has at
+ * least 200 bytes.
  * Answer: 0, the line's length in out. */
 size_t musseltwig_check_reply(const uint8_t *placement, size_t placement_length, uint8_t *out, size_t out_length,
     uint64_t *answer, size_t answer_length);
@@ -168,7 +182,7 @@ size_t musseltwig_check_reply(const uint8_t *placement, size_t placement_length,
 size_t musseltwig_open_walk(const uint8_t *placement, size_t placement_length, uint64_t *answer, size_t answer_length);
 
 /* Steps a row walk.
- * Answer: 0, where the row begins in placement and its length, 0 and 0 at the end; then at, r and left of the next step. */
+ * Answer: 0, where the row begins in placement and its length, 0 and 0 at the end; the next step's at, r and left. */
 size_t musseltwig_step(const uint8_t *placement, size_t placement_length, uint64_t at, uint64_t r, uint64_t left,
     uint64_t *answer, size_t answer_length);
 

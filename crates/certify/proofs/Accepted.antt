@@ -76,7 +76,7 @@ held-of-readStart bytes e =
       seven = refl;
     })
 
-readStart-accepted : (base : Site) (bytes : List ℕ) (next : ℕ) → Reads (startNumbers base) bytes 0 next
+pub readStart-accepted : (base : Site) (bytes : List ℕ) (next : ℕ) → Reads (startNumbers base) bytes 0 next
     → BaseLimits (base .n) (base .r) → DarkLimits 5 (base .n) (base .dark)
     → readStart bytes ≡ accepted (record { kind = 7; base = base; next = next })
 unfolding readStart readSeven
@@ -114,7 +114,7 @@ held-of-readOrder base bytes at e two =
       },
     )
 
-readOrder-accepted : (base : Site) (order : Order) (bytes : List ℕ) (at next : ℕ) → Reads (orderNumbers order) bytes at next
+pub readOrder-accepted : (base : Site) (order : Order) (bytes : List ℕ) (at next : ℕ) → Reads (orderNumbers order) bytes at next
     → OrderLimits (base .n) (base .r) order → readOrder base bytes at ≡ accepted (record { order = order; next = next })
 unfolding readOrder
 readOrder-accepted base order bytes at next (at₁, read₁, (at₂, read₂, (at₃, read₃, e))) o =
@@ -232,7 +232,7 @@ checked-good bytes q e =
     let (file, read, same) = mapAccepted-accepted (λ file. file .content) (readBare bytes) e in
     subst GoodBare same (read-of-bare bytes (file .content) (file .first) read .1)
 
-file-reads : (q : Bare) (bytes : List ℕ) → BareFile q bytes → (first : ℕ) × BareReads q bytes first
+pub file-reads : (q : Bare) (bytes : List ℕ) → BareFile q bytes → (first : ℕ) × BareReads q bytes first
 file-reads q bytes (h, forms, whole) = (
   length h,
   record {
@@ -259,26 +259,26 @@ bare-accepted-iff bytes q b = (to, from)
         let (first, f) = file-reads q bytes is-file in
         rw (bare-accepted bytes q first f g) refl
 
+-- the numbers of a head within its limits can be written
+pub numbers-most : (q : Bare) → BaseLimits (q .base .n) (q .base .r) → DarkLimits 5 (q .base .n) (q .base .dark)
+    → OrderLimits (q .base .n) (q .base .r) (q .order) → All (λ v. v ≤ largestNumber) (bareNumbers q)
+numbers-most q b d o = (
+  omega arith,
+  (
+    omega arith,
+    (
+      omega arith,
+      all-append (λ v. v ≤ largestNumber) (listNumbers 5 (q .base .dark)) (orderNumbers (q .order))
+          (list-most (q .base .n) (q .base .dark) (b .n-most) (d .ordered) 5)
+          (omega arith, (omega arith, (omega arith, tt))),
+    ),
+  ),
+)
+
 -- good bare rows as a file are accepted
 module _ (q : Bare) (good : GoodBare q) where
-  numbers-most : All (λ v. v ≤ largestNumber) (bareNumbers q)
-  numbers-most =
-      let b = good .base in
-      let o = good .order in (
-        omega arith,
-        (
-          omega arith,
-          (
-            omega arith,
-            all-append (λ v. v ≤ largestNumber) (listNumbers 5 (q .base .dark)) (orderNumbers (q .order))
-                (list-most (q .base .n) (q .base .dark) (b .n-most) (good .dark .ordered) 5)
-                (omega arith, (omega arith, (omega arith, tt))),
-          ),
-        ),
-      )
-
   pub written-accepted : checkBare (bareBytes q) ≡ accepted q
   unfolding checkBare bareBytes
   written-accepted =
-      let (first, f) = file-reads q (bareBytes q) (formsOf (bareNumbers q), forms-of (bareNumbers q) numbers-most, refl) in
+      let (first, f) = file-reads q (bareBytes q) (formsOf (bareNumbers q), forms-of (bareNumbers q) (numbers-most q (good .base) (good .dark) (good .order)), refl) in
       rw (bare-accepted (bareBytes q) q first f good) refl

@@ -1,4 +1,5 @@
 pub mod Accepted
+pub mod Placed
 pub mod Alone
 pub mod Answered
 pub mod Best

@@ -1,6 +1,5 @@
 -- What is known of a draft that was read to the text's end, and of what is made. Assumes nothing.
 use Prim.Native.Nat.{ℕ, suc, _-_, _<_}
-use native.Mathlib.Omega.{arith}
 use mathlib.Core.Path.{_≡_, refl}
 use mathlib.Core.Bool.{Bool, true, false, _&&_}
 use mathlib.Core.List.{List, [], _∷_}
@@ -11,18 +10,12 @@ use Rattle.refusal.specs.Checked.{Checked, accepted, refused, mapAccepted}
 use Rattle.refusal.proofs.Checked.{mapAccepted-accepted}
 use Rattle.layers.specs.Layers.{Located}
 use Rattle.certify.specs.Bare.{Bare, readBare, checkBare}
-use Rattle.table.specs.declared.Fault.{Fault}
 use Rattle.table.specs.Told.{Told, good, bad, _>>=_, unless, endsEarly}
 use Rattle.table.specs.Lines.{linesOf}
 use Rattle.table.specs.Reading.{Draft, draftBytes}
+use Rattle.table.proofs.Made.{bad-not-good, good-injective}
 use Rattle.rows_text.specs.Reading.{startDraft, addLine, readLines, readText}
 use Rattle.rows_text.specs.Making.{rowsIf, rowsDraft, rowsOf}
-
-bad-not-good : {A : Type 0} {e : Fault} {a : A} → bad e ≡ good a → ⊥
-bad-not-good p = let z : _≡_ {A = ℕ} 0 1 = cc in omega arith
-
-good-injective : {A : Type 0} {a b : A} → good a ≡ good b → a ≡ b
-good-injective p = cc
 
 -- a text that is read to its end has an r
 lines-replica : (line : ℕ) (lines : List (List ℕ)) (d : Draft) {made : Draft} → readLines line lines d ≡ good made → 0 < made .r

@@ -1,4 +1,3 @@
 pub mod Words
 pub mod Reading
 pub mod Making
-pub mod Into

@@ -5,11 +5,8 @@ use mathlib.Core.Path.{_≡_, refl, sym, ap}
 use mathlib.Core.List.{List}
 use lib.ListN.{length, take, drop, length-append}
 use lib.Seq.{take-at}
-use borrow.Author.Tests.{lt-ltb, le-ltb, lt-leb}
+use borrow.Author.Tests.{lt-ltb, le-ltb}
 use Rattle.lists.specs.Lists.{overStart}
-use Rattle.refusal.specs.declared.Refusal.the-variants.{ShortOutput}
-use Rattle.report.specs.declared.Reply.the-variants.{Written, Refused}
-use Rattle.report.specs.Answers.{ReplyDone}
 use Rattle.report.specs.Replies.{Replied}
 use Rattle.report.proofs.Replies.{replied-of}
 use Rattle.table.specs.declared.Fault.{Fault}
@@ -17,10 +14,8 @@ use Rattle.table.specs.declared.Packed.{Packed}
 use Rattle.table.specs.declared.Packed.the-variants.{Bytes, Bad}
 use Rattle.table.specs.Told.{Told, good, bad, tooLong}
 use Rattle.table.specs.Reading.{orFaultLine, faultLine, textMost}
-use Rattle.table.specs.Progress.{PackedIn, packMost}
+use Rattle.table.specs.Progress.{PackedIn}
 use Rattle.rows_text.specs.Making.{rowsOf, rowsInput, rowsReply}
-use Rattle.rows_text.specs.Into.{rowsInto}
-use Rattle.rows_text.proofs.Enough.{rowsInto-enough}
 
 -- too long a text, and any other
 module _ (input : List ℕ) where
@@ -62,14 +57,3 @@ module _ (input : List ℕ) (packed : Packed) (before after : List ℕ) (is-in :
       go : (told : Told (List ℕ)) → PackedIn told (Bad e) before after → Replied (orFaultLine told) n out₀ out
       go (good bytes) h = absurd h
       go (bad f) h = rw (← h) replied
-
--- any slice
-module _ (input before : List ℕ) where
-  pub rows-refused : length before < packMost → ReplyDone (rowsInto input (length before)) before before (Refused (ShortOutput packMost))
-  unfolding rowsInto
-  rows-refused short = rw (lt-leb packMost (length before) short) (record { answer = refl; output-after = refl })
-
-  pub rows-written : {n : ℕ} {after : List ℕ} → packMost ≤ length before → Replied (rowsReply input) n before after
-      → ReplyDone (rowsInto input (length before)) before after (Written n)
-  rows-written enough r =
-      rw (rowsInto-enough input (length before) enough) (record { answer = ap Written (r .answered); output-after = r .written })

@@ -1,28 +1,15 @@
 // The reply of the program `rows`, put into a slice that a caller lends.
 use refusal::Refusal;
 use report::Reply;
-use table::Fault;
 use table::PACK_MOST;
 use table::Packed;
 ghost use Prim.Native.Nat.{_≤_};
 ghost use lib.ListN.{length};
 ghost use Rattle.report.specs.Answers.{ReplyDone};
 ghost use Rattle.report.specs.Replies.{Replied};
-ghost use Rattle.table.specs.Reading.{faultLine};
+ghost use Rattle.replies.specs.Replying.{into};
 ghost use Rattle.table.specs.Progress.{packMost};
 ghost use Rattle.rows_text.specs.Making.{rowsReply};
-ghost use Rattle.rows_text.specs.Into.{rowsInto};
-
-// Puts the line of a fault at the start of `out`, and answers its length.
-fn fault_line(out: &mut [u8], e: Fault) -> usize
-    requires { ⌜ packMost ≤ length (now out) ⌝ }
-    ensures { λ r. ⌜ Replied (faultLine e) r (now (out .entry)) (now (out .exit)) ⌝ }
-{
-    let number = e.number;
-    let place = e.place;
-    let numbers = [number, place];
-    report_lines::line(out, b"refused", &numbers)
-}
 
 // Puts the bare rows of the input, or the line of its refusal, at the start of `out`, and answers its length.
 fn rows_into(input: &[u8], out: &mut [u8]) -> usize
@@ -39,13 +26,13 @@ fn rows_into(input: &[u8], out: &mut [u8]) -> usize
             rows_writer::copy_bytes(out, &made[0..length]);
             length
         }
-        Packed::Bad(e) => fault_line(out, e),
+        Packed::Bad(e) => draft_code::fault_line(out, e),
     }
 }
 
 // Puts what `rows` writes for the input at the start of `out`, and answers its length; a slice of fewer than 21,760 bytes is refused.
 pub fn rows_reply(input: &[u8], out: &mut [u8]) -> Reply
-    ensures { λ r. ⌜ ReplyDone (rowsInto (now (input .entry)) (length (now (out .entry)))) (now (out .entry)) (now (out .exit)) r ⌝ }
+    ensures { λ r. ⌜ ReplyDone (into packMost (rowsReply (now (input .entry))) (length (now (out .entry)))) (now (out .entry)) (now (out .exit)) r ⌝ }
 {
     if out.len() < PACK_MOST {
         return Reply::Refused(Refusal::ShortOutput(PACK_MOST));

@@ -1,22 +1,24 @@
 -- "Reading what was printed gives the pack back", of the programs `table` and `pack`. Assumes nothing.
-use Prim.Native.Nat.{ℕ, _≤_, _<_}
+use Prim.Native.Nat.{ℕ}
 use native.Mathlib.Omega.{arith}
-use mathlib.Core.Path.{_≡_, refl, sym, _∙_, ap}
+use mathlib.Core.Path.{_≡_, refl, sym, _∙_}
 use mathlib.Core.List.{List}
 use lib.ListN.{length, take}
 use lib.Seq.{length-take-le}
-use borrow.Author.Tests.{lt-ltb, le-ltb, le-leb}
+use lib.Dec.{ltb}
+use borrow.Author.Tests.{lt-ltb, le-ltb}
 use Rattle.lists.proofs.Prefixes.{take-elim}
-use Rattle.refusal.specs.Checked.{Checked, accepted, refused, mapAccepted}
+use Rattle.refusal.specs.Checked.{accepted}
 use Rattle.refusal.proofs.Checked.{mapAccepted-accepted}
 use Rattle.layers.specs.Layers.{Located}
 use Rattle.pack.specs.Pack.{Pack, GoodPack, bytesOfPack, readPack, checkPack}
 use Rattle.pack.proofs.Accepted.{read-of-pack}
 use Rattle.pack.proofs.Prefix.{checkPack-buffer}
 use Rattle.table.specs.Told.{good}
-use Rattle.table.specs.Reading.{packOf, packInput, packReply, textMost}
-use Rattle.table.specs.Printing.{tableText, tableReply, tableMost, tableInto}
-use Rattle.table.specs.Progress.{packMost, packInto}
+use Rattle.table.specs.Reading.{packInput, packReply, textMost}
+use Rattle.table.specs.Printing.{tableText, tableReply}
+use Rattle.table.proofs.Made.{unless-good}
+use Rattle.table.proofs.Drafted.{made-bytes}
 use Rattle.table.proofs.RoundTrip.{pack-of-text}
 use Rattle.table.proofs.Lengths.{text-length}
 
@@ -41,14 +43,13 @@ printed-packed input p e = rw (e, input-of-text p (accepted-good input p e)) ref
 pub same-bytes : (input : List ℕ) (p : Pack) → checkPack input ≡ accepted p → input ≡ bytesOfPack p → packReply (tableReply input) ≡ input
 same-bytes input p e is = printed-packed input p e ∙ sym is
 
--- The programs' own slices are long enough.
-pub packInto-enough : (input : List ℕ) (output : ℕ) → packMost ≤ output → packInto input output ≡ accepted (packReply input)
-unfolding packInto
-packInto-enough input output h = rw (le-leb packMost output h) refl
-
-pub tableInto-enough : (input : List ℕ) (output : ℕ) → tableMost ≤ output → tableInto input output ≡ accepted (tableReply input)
-unfolding tableInto
-tableInto-enough input output h = rw (le-leb tableMost output h) refl
+-- So does every pack that `pack` writes.
+pub made-again : (text : List ℕ) {bytes : List ℕ} → packInput text ≡ good bytes → packReply (tableReply bytes) ≡ bytes
+unfolding packInput
+made-again text {bytes} e =
+    let (short, made) = unless-good (ltb (length text) textMost) _ _ e in
+    let (p, checked, is) = made-bytes text made in
+    same-bytes bytes p checked is
 
 -- A program reads so many bytes: the rest of its input changes nothing.
 pub pack-buffer : (input : List ℕ) → packReply (take textMost input) ≡ packReply input

@@ -2,8 +2,13 @@ pub mod Lines
 pub mod Places
 pub mod Numbers
 pub mod Printed
+pub mod Drafts
 pub mod RoundTrip
 pub mod Made
+pub mod Headed
+pub mod Placed
+pub mod Stages
+pub mod Drafted
 pub mod Lengths
 pub mod Again
 pub mod Worked

@@ -1,11 +1,14 @@
 -- A text's lines, one by one. Assumes nothing.
-use Prim.Native.Nat.{ℕ, zero, suc}
+use Prim.Native.Nat.{ℕ, _≤_}
+use native.Mathlib.Omega.{arith}
 use mathlib.Core.Path.{_≡_, refl, ap}
 use mathlib.Core.Bool.{Bool, true, false, cond}
 use mathlib.Core.List.{List, [], _∷_, _++_}
+use lib.ListN.{length}
 use lib.Dec.{eqb}
 use Rattle.lists.specs.Lists.{All}
-use Rattle.table.specs.Lines.{startLine, linesOf, before}
+use Rattle.lists.proofs.Tests.{T-true, true-T, and-right}
+use Rattle.table.specs.Lines.{startLine, linesOf, before, begins}
 
 -- a byte that ends neither a line nor what is read of it
 abbrev pub Inside : ℕ → Type 0
@@ -22,3 +25,11 @@ pub before-all : (line : List ℕ) → All Inside line → before 35 line ≡ li
 unfolding before
 before-all [] h = refl
 before-all (byte ∷ line) h = rw (h .0 .1) (ap (λ l. byte ∷ l) (before-all line (h .1)))
+
+-- a line is as long as the word that it begins with
+pub begins-length : (word line : List ℕ) → begins word line ≡ true → length word ≤ length line
+unfolding begins
+begins-length [] line e = omega arith
+begins-length (w ∷ word) [] e = absurd (let z : _≡_ {A = ℕ} 0 1 = cc in omega arith)
+begins-length (w ∷ word) (b ∷ line) e =
+    let tail = begins-length word line (true-T (begins word line) (and-right (eqb w b) (begins word line) (T-true e))) in omega arith

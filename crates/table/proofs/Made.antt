@@ -16,11 +16,17 @@ use Rattle.table.specs.Told.{Told, good, bad, _>>=_, unless, endsEarly}
 use Rattle.table.specs.Lines.{linesOf}
 use Rattle.table.specs.Reading.{Draft, startDraft, addLine, readLines, readText, draftBytes, packIf, packDraft, packOf}
 
-bad-not-good : {A : Type 0} {e : Fault} {a : A} → bad e ≡ good a → ⊥
+-- what is bad is not good, and what is good is one thing
+pub bad-not-good : {A : Type 0} {e : Fault} {a : A} → bad e ≡ good a → ⊥
 bad-not-good p = let z : _≡_ {A = ℕ} 0 1 = cc in omega arith
 
-good-injective : {A : Type 0} {a b : A} → good a ≡ good b → a ≡ b
+pub good-injective : {A : Type 0} {a b : A} → good a ≡ good b → a ≡ b
 good-injective p = cc
+
+-- what follows a test is met only where it passed
+pub unless-good : {A : Type 0} (b : Bool) (e : Fault) (f : Unit → Told A) {a : A} → (unless b e >>= f) ≡ good a → (b ≡ true) × (f tt ≡ good a)
+unless-good true e f h = (refl, h)
+unless-good false e f h = absurd (bad-not-good h)
 
 -- a text that is read to its end has an r
 lines-replica : (line : ℕ) (lines : List (List ℕ)) (d : Draft) {made : Draft} → readLines line lines d ≡ good made → 0 < made .r

@@ -1,91 +1,38 @@
 -- "Reading what was printed gives the pack back." Assumes nothing.
-use Prim.Native.Nat.{ℕ, zero, suc, _+_, _*_, _-_, _≤_, _<_}
+use Prim.Native.Nat.{ℕ, suc, _+_, _≤_, _<_}
 use native.Mathlib.Omega.{arith}
-use native.Mathlib.Nat.{add-zero}
 use mathlib.Core.Path.{_≡_, refl, sym, _∙_, ap, subst}
-use mathlib.Core.Bool.{Bool, true, false, cond, _&&_}
 use mathlib.Core.List.{List, [], _∷_, _++_, map, flatten, append-assoc, append-nil}
-use mathlib.Core.Option.{some}
-use lib.ListN.{length, getD, set, length-append}
-use lib.Seq.{set-at, getD-at}
-use lib.Dec.{T, leb, ltb, eqb}
-use borrow.Author.Tests.{lt-ltb, le-leb, eq-eqb, ltb-true}
-use Rattle.lists.specs.Lists.{All, every, total}
-use Rattle.lists.proofs.Alls.{all-imp, every-all, all-append-left, all-append-right}
-use Rattle.lists.proofs.Tests.{true-T, and-right}
+use lib.ListN.{length}
+use borrow.Author.Tests.{lt-ltb, le-leb, eq-eqb}
+use Rattle.lists.specs.Lists.{All, total}
+use Rattle.lists.proofs.Alls.{all-append-left, all-append-right}
 use Rattle.lists.proofs.Counts.{flatten-append}
 use Rattle.refusal.specs.Checked.{accepted, refused}
 use Rattle.refusal.proofs.Checked.{mapAccepted-accepted}
 use Rattle.number.specs.Numbers.{formsOf}
-use Rattle.packing.specs.Rows.{Row, ascending, inOrder}
+use Rattle.packing.specs.Rows.{Row}
 use Rattle.layers.specs.Layers.{Layer, Located, BaseLimits, allRows, headsOf, headNumbers, sizes, listNumbers}
-use Rattle.layers.proofs.Listing.{dark-count}
 use Rattle.pack.specs.Pack.{Pack, PackLimits, GoodPack, packNumbers, bytesOfPack, readPack, checkPack}
 use Rattle.pack.proofs.Written.{pack-written-accepted}
+use Rattle.report.specs.Programs.{rest}
 use Rattle.table.specs.declared.Word.the-variants.{Table, Out, Mu, Plain}
 use Rattle.table.specs.Told.{Told, good, bad, _>>=_, unless}
 use Rattle.table.specs.Lines.{linesOf, begins, wordOf, readNumbers, before}
-use Rattle.table.specs.Reading.{Draft, startDraft, headTaken, addTable, addOut, addLayer, addBlock, oneMore, addNumbers, addContent, addLine, readLines, readText, draftBytes, packIf, packDraft, packOf}
+use Rattle.table.specs.Reading.{Draft, startDraft, addOut, addLayer, addBlock, addNumbers, addContent, addLine, readLines, readText, draftBytes, packIf, packDraft, packOf}
 use Rattle.table.specs.Printing.{textLine, outText, layerText, tableText}
 use Rattle.table.proofs.Numbers.{Short}
 use Rattle.table.proofs.Printed.{read-line}
+use Rattle.table.proofs.Drafts.{LineReads, draft, head-added, read-out, read-blocks}
 
--- nodes of a row, and of the list, are short numbers
-module _ (n : ℕ) (n-most : n ≤ 255) where
-  nodes-short : (nodes : List ℕ) → T (inOrder n nodes) → All Short nodes
-  nodes-short nodes h =
-      all-imp (λ v. T (ltb v n)) Short (λ v t. omega (arith, ltb-true v n (true-T (ltb v n) t))) nodes
-      (every-all (λ v. ltb v n) nodes (and-right (ascending 0 nodes) (every (λ v. ltb v n) nodes) h))
+-- printed lines of the list and of blocks
+out-read : LineReads readLines (textLine Out) addOut
+unfolding addNumbers
+out-read line v nodes more d small few = read-line Out (v ∷ nodes) small few line more d
 
--- a draft of these parts
-abbrev draft : (n r layers blocks : ℕ) (numbers rows lines : List ℕ) → Draft
-draft n r layers blocks numbers rows lines =
-    record { n = n; r = r; layers = layers; blocks = blocks; numbers = numbers; rows = rows; lines = lines }
-
-one-more : (before : List ℕ) (m : ℕ) → oneMore (before ++ (m ∷ [])) ≡ before ++ (suc m ∷ [])
-one-more before m =
-    let len : length (before ++ (m ∷ [])) - 1 ≡ length before = omega (arith, length-append before (m ∷ [])) in
-    rw (len, getD-at before m [] 0 (length before) refl) (set-at before m [] (suc m) (length before) refl)
-
-module _ (n r layers : ℕ) (n-most : n ≤ 255) (r-least : 1 ≤ r) (r-most : r ≤ 5) (open-layer : 0 < layers) where
-  block-added : (line blocks : ℕ) (numbers rows lines row : List ℕ) → Row n r row → blocks < 4_096
-      → addNumbers line Plain row (draft n r layers blocks numbers rows lines)
-      ≡ good (draft n r layers (suc blocks) (oneMore numbers) (rows ++ row) (lines ++ (line ∷ [])))
-  unfolding addNumbers addBlock
-  block-added line blocks numbers rows lines [] h few = absurd (let e = h .0 in omega arith)
-  block-added line blocks numbers rows lines (v ∷ row) h few =
-      rw (lt-ltb 0 layers open-layer, eq-eqb (length (v ∷ row)) r (h .0), lt-ltb blocks 4_096 few, true-T (inOrder n (v ∷ row)) (h .1))
-
-  -- a layer's blocks
-  read-blocks : (P : Told Draft → Type 0) (blockRows : List (List ℕ)) (more : List ℕ) (line blocks m : ℕ) (numbers rows lines : List ℕ)
-      → All (Row n r) blockRows → blocks + length blockRows ≤ 4_096
-      → ((line′ : ℕ) (lines′ : List ℕ)
-      → P (readLines line′ (linesOf more)
-      (draft n r layers (blocks + length blockRows) (numbers ++ ((m + length blockRows) ∷ [])) (rows ++ flatten blockRows) lines′)))
-      → P (readLines line (linesOf (flatten (map (textLine Plain) blockRows) ++ more))
-      (draft n r layers blocks (numbers ++ (m ∷ [])) rows lines))
-  unfolding flatten
-  read-blocks P [] more line blocks m numbers rows lines all few k =
-      let b : blocks + 0 ≡ blocks = omega arith in
-      let c : m + 0 ≡ m = omega arith in
-      rw (b, c, append-nil rows) at (k line lines)
-  read-blocks P (row ∷ blockRows) more line blocks m numbers rows lines all few k =
-      let d = draft n r layers blocks (numbers ++ (m ∷ [])) rows lines in
-      let short = nodes-short n n-most row (all .0 .1) in
-      let whole : (textLine Plain row ++ flatten (map (textLine Plain) blockRows)) ++ more
-      ≡ textLine Plain row ++ (flatten (map (textLine Plain) blockRows) ++ more) =
-      append-assoc (textLine Plain row) (flatten (map (textLine Plain) blockRows)) more in
-      rw (
-        whole,
-        read-line Plain row short (let e = all .0 .0 in omega arith) line (flatten (map (textLine Plain) blockRows) ++ more) d,
-        block-added line blocks (numbers ++ (m ∷ [])) rows lines row (all .0) (omega arith),
-        one-more numbers m,
-      )
-      (read-blocks P blockRows more (suc line) (suc blocks) (suc m) numbers (rows ++ row) (lines ++ (line ∷ [])) (all .1) (omega arith)
-      λ line′ lines′.
-      let b : suc blocks + length blockRows ≡ blocks + suc (length blockRows) = omega arith in
-      let c : suc m + length blockRows ≡ m + suc (length blockRows) = omega arith in
-      rw (b, c, append-assoc rows row (flatten blockRows)) (k line′ lines′))
+row-read : LineReads readLines rest addBlock
+unfolding addNumbers
+row-read line v row more d small few = read-line Plain (v ∷ row) small few line more d
 
 -- a layer: its mu, and its blocks
 module _ (n r : ℕ) (n-most : n ≤ 255) (r-least : 1 ≤ r) (r-most : r ≤ 5) where
@@ -122,7 +69,7 @@ module _ (n r : ℕ) (n-most : n ≤ 255) (r-least : 1 ≤ r) (r-most : r ≤ 5)
         read-line Mu (mu ∷ []) small (omega arith) line (text ++ (others ++ more)) d,
         layer-added line layers blocks mu numbers rows lines (omega arith) (bounds .0 .0) (bounds .0 .1),
       )
-      (read-blocks n r (suc layers) n-most r-least r-most (omega arith) P (layer .rows) (others ++ more) (suc line) blocks 0
+      (read-blocks readLines n r (suc layers) n-most r-least r-most (omega arith) row-read P (layer .rows) (others ++ more) (suc line) blocks 0
       (numbers ++ (mu ∷ [])) rows lines own (omega arith)
       λ line′ lines′.
       read-layers P ls more line′ (suc layers) (blocks + length (layer .rows))
@@ -140,27 +87,10 @@ module _ (n r : ℕ) (n-most : n ≤ 255) (r-least : 1 ≤ r) (r-most : r ≤ 5)
       append-assoc rows (flatten (layer .rows)) (flatten (allRows ls)) ∙ ap (λ l. rows ++ l) (sym (flatten-append (layer .rows) (allRows ls))) in
       rw (a, b, m, ns, rs) (k line″ lines″))
 
-module _ (n r : ℕ) (limits : BaseLimits n r) where
-  -- the first line
-  table-added : addNumbers 1 Table (n ∷ r ∷ []) startDraft ≡ good (draft n r 0 0 (4 ∷ n ∷ r ∷ 0 ∷ []) [] [])
-  unfolding addNumbers addTable headTaken
-  table-added =
-      rw (le-leb 2 n (limits .n-least), le-leb n 255 (limits .n-most), le-leb 2 r (limits .r-least), le-leb r 5 (limits .r-most), le-leb r n (limits .r-nodes))
-
-  -- the nodes out of service
-  read-out : (P : Told Draft → Type 0) (dark more : List ℕ) (line : ℕ) → T (inOrder n dark)
-      → ((line′ : ℕ) → P (readLines line′ (linesOf more) (draft n r 0 0 (4 ∷ n ∷ r ∷ length dark ∷ dark) [] [])))
-      → P (readLines line (linesOf (outText dark ++ more)) (draft n r 0 0 (4 ∷ n ∷ r ∷ 0 ∷ []) [] []))
-  unfolding addNumbers addOut
-  read-out P [] more line order k = k line
-  read-out P (v ∷ dark) more line order k =
-      let few = dark-count n (v ∷ dark) order in
-      rw (
-        read-line Out (v ∷ dark) (nodes-short n (limits .n-most) (v ∷ dark) order) (omega (arith, limits .n-most, few)) line more
-            (draft n r 0 0 (4 ∷ n ∷ r ∷ 0 ∷ []) [] []),
-        true-T (inOrder n (v ∷ dark)) order,
-      )
-      (k (suc line))
+-- the first line
+table-added : (n r : ℕ) → BaseLimits n r → addNumbers 1 Table (n ∷ r ∷ []) startDraft ≡ good (draft n r 0 0 (4 ∷ n ∷ r ∷ 0 ∷ []) [] [])
+unfolding addNumbers
+table-added n r limits = head-added 4 n r limits
 
 -- after the last layer
 read-end : (line n r blocks : ℕ) (numbers rows lines : List ℕ) → 1 ≤ r
@@ -191,7 +121,7 @@ module _ (p : Pack) (g : GoodPack p) where
       let small : All Short (n ∷ r ∷ []) = (omega (arith, base .n-most), (omega (arith, base .r-most), tt)) in
       let each : 0 + length layers ≡ r = omega (arith, g .limits .layer-each) in
       rw (read-line Table (n ∷ r ∷ []) small (omega arith) 1 (outText (p .dark) ++ flatten (map layerText layers)) startDraft, table-added n r base)
-      (read-out n r base Makes (p .dark) (flatten (map layerText layers)) 2 (g .limits .dark-order) λ line.
+      (read-out readLines n r base out-read Makes 4 (p .dark) (flatten (map layerText layers)) 2 (g .limits .dark-order) λ line.
       subst (λ text. Makes (readLines line (linesOf text) (draft n r 0 0 (4 ∷ n ∷ r ∷ length (p .dark) ∷ p .dark) [] [])))
       (append-nil (flatten (map layerText layers)))
       (read-layers n r (base .n-most) (omega (arith, base .r-least)) (base .r-most) Makes layers [] line 0 0 (4 ∷ n ∷ r ∷ length (p .dark) ∷ p .dark) [] []

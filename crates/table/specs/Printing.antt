@@ -2,9 +2,7 @@
 use Prim.Native.Nat.{ℕ, _+_, _*_, _≤_}
 use mathlib.Core.List.{List, [], _∷_, _++_, map, flatten}
 use lib.ListN.{length, take}
-use lib.Dec.{leb}
-use Rattle.refusal.specs.declared.Refusal.the-variants.{ShortOutput}
-use Rattle.refusal.specs.Checked.{Checked, accepted, _>>=_, require, mapAccepted}
+use Rattle.refusal.specs.Checked.{mapAccepted}
 use Rattle.layers.specs.declared.LayerHead.{LayerHead}
 use Rattle.layers.specs.declared.Dark.{Dark}
 use Rattle.layers.specs.Layers.{Layer, sizes, layersAt}
@@ -40,12 +38,6 @@ tableReply input = orRefusedLine (mapAccepted tableText (checkPack input))
 -- the bytes that `table` asks for, whatever the input: every text is shorter
 abbrev pub tableMost : ℕ
 tableMost = 90_112
-
--- what `table` prints into a slice of `output` bytes; "output too short": refusal 11 with the "bytes needed"
-unfoldable pub tableInto : (input : List ℕ) (output : ℕ) → Checked (List ℕ)
-tableInto input output = do
-  _ ← require (leb tableMost output) (ShortOutput tableMost)
-  accepted (tableReply input)
 
 -- the text of a pack, from what its check hands on and the bytes of its blocks
 unfoldable pub heldText : PackHead → List LayerHead → Dark → (rows : List ℕ) → List ℕ

@@ -5,11 +5,9 @@ use mathlib.Core.Bool.{cond}
 use mathlib.Core.List.{List}
 use mathlib.Core.Option.{Option, none, some}
 use lib.ListN.{length, take, drop, getD}
-use lib.Dec.{leb}
 use Rattle.lists.specs.Lists.{All, overStart}
-use Rattle.refusal.specs.declared.Refusal.the-variants.{ShortOutput}
 use Rattle.refusal.specs.Refusals.{numberOf, placeOf}
-use Rattle.refusal.specs.Checked.{Checked, accepted, refused, _>>=_, require}
+use Rattle.refusal.specs.Checked.{Checked, accepted, refused}
 use Rattle.number.specs.Numbers.{largestNumber}
 use Rattle.layers.specs.Layers.{Located}
 use Rattle.pack.specs.Pack.{Pack}
@@ -23,7 +21,7 @@ use Rattle.table.specs.declared.Packed.{Packed}
 use Rattle.table.specs.declared.Packed.the-variants.{Bytes, Bad as NotPacked}
 use Rattle.table.specs.Told.{Told, good, bad}
 use Rattle.table.specs.Lines.{isDigit, isBlank}
-use Rattle.table.specs.Reading.{Draft, packReply}
+use Rattle.table.specs.Reading.{Draft}
 
 -- the digit that a byte is; 10 for a blank, 11 for any other byte
 abbrev pub digitOf : ℕ → ℕ
@@ -110,9 +108,3 @@ abbrev pub packedAs : Checked (Located Pack) → (size : ℕ) (lines : List ℕ)
 packedAs (accepted file) size lines first r = Bytes size
 packedAs (refused e) size lines first r =
     NotPacked (record { number = numberOf e; place = getD lines ((placeOf e - first) / r) 0 })
-
--- what `pack` writes into a slice of `output` bytes; "output too short": refusal 11 with the "bytes needed"
-unfoldable pub packInto : (input : List ℕ) (output : ℕ) → Checked (List ℕ)
-packInto input output = do
-  _ ← require (leb packMost output) (ShortOutput packMost)
-  accepted (packReply input)

@@ -5,11 +5,8 @@ use mathlib.Core.Path.{_≡_, refl, sym, ap}
 use mathlib.Core.List.{List}
 use lib.ListN.{length, take, drop, length-append}
 use lib.Seq.{take-at}
-use borrow.Author.Tests.{lt-ltb, le-ltb, lt-leb}
+use borrow.Author.Tests.{lt-ltb, le-ltb}
 use Rattle.lists.specs.Lists.{overStart}
-use Rattle.refusal.specs.declared.Refusal.the-variants.{ShortOutput}
-use Rattle.report.specs.declared.Reply.the-variants.{Written, Refused}
-use Rattle.report.specs.Answers.{ReplyDone}
 use Rattle.report.specs.Replies.{Replied}
 use Rattle.report.proofs.Replies.{replied-of}
 use Rattle.table.specs.declared.Fault.{Fault}
@@ -17,8 +14,7 @@ use Rattle.table.specs.declared.Packed.{Packed}
 use Rattle.table.specs.declared.Packed.the-variants.{Bytes, Bad}
 use Rattle.table.specs.Told.{Told, good, bad, tooLong}
 use Rattle.table.specs.Reading.{packOf, packInput, packReply, orFaultLine, faultLine, textMost}
-use Rattle.table.specs.Progress.{PackedIn, packMost, packInto}
-use Rattle.table.proofs.Again.{packInto-enough}
+use Rattle.table.specs.Progress.{PackedIn}
 
 -- too long a text, and any other
 module _ (input : List ℕ) where
@@ -60,14 +56,3 @@ module _ (input : List ℕ) (packed : Packed) (before after : List ℕ) (is-in :
       go : (told : Told (List ℕ)) → PackedIn told (Bad e) before after → Replied (orFaultLine told) n out₀ out
       go (good bytes) h = absurd h
       go (bad f) h = rw (← h) replied
-
--- any slice
-module _ (input before : List ℕ) where
-  pub pack-refused : length before < packMost → ReplyDone (packInto input (length before)) before before (Refused (ShortOutput packMost))
-  unfolding packInto
-  pack-refused short = rw (lt-leb packMost (length before) short) (record { answer = refl; output-after = refl })
-
-  pub pack-written : {n : ℕ} {after : List ℕ} → packMost ≤ length before → Replied (packReply input) n before after
-      → ReplyDone (packInto input (length before)) before after (Written n)
-  pack-written enough r =
-      rw (packInto-enough input (length before) enough) (record { answer = ap Written (r .answered); output-after = r .written })

@@ -1,26 +1,15 @@
 // The reply of the program `pack`, put into a slice that a caller lends.
 use refusal::Refusal;
 use report::Reply;
-use table::Fault;
 use table::PACK_MOST;
 use table::Packed;
 ghost use Prim.Native.Nat.{_≤_};
 ghost use lib.ListN.{length};
 ghost use Rattle.report.specs.Answers.{ReplyDone};
 ghost use Rattle.report.specs.Replies.{Replied};
-ghost use Rattle.table.specs.Reading.{faultLine, packReply};
-ghost use Rattle.table.specs.Progress.{packMost, packInto};
-
-// Puts the line of a fault at the start of `out`, and answers its length.
-fn fault_line(out: &mut [u8], e: Fault) -> usize
-    requires { ⌜ packMost ≤ length (now out) ⌝ }
-    ensures { λ r. ⌜ Replied (faultLine e) r (now (out .entry)) (now (out .exit)) ⌝ }
-{
-    let number = e.number;
-    let place = e.place;
-    let numbers = [number, place];
-    report_lines::line(out, b"refused", &numbers)
-}
+ghost use Rattle.replies.specs.Replying.{into};
+ghost use Rattle.table.specs.Reading.{packReply};
+ghost use Rattle.table.specs.Progress.{packMost};
 
 // Puts the pack of the input, or the line of its refusal, at the start of `out`, and answers its length.
 fn pack_into(input: &[u8], out: &mut [u8]) -> usize
@@ -37,13 +26,13 @@ fn pack_into(input: &[u8], out: &mut [u8]) -> usize
             rows_writer::copy_bytes(out, &pack[0..length]);
             length
         }
-        Packed::Bad(e) => fault_line(out, e),
+        Packed::Bad(e) => draft_code::fault_line(out, e),
     }
 }
 
 // Puts what `pack` writes for the input at the start of `out`, and answers its length; a slice of fewer than 21,760 bytes is refused.
 pub fn pack_reply(input: &[u8], out: &mut [u8]) -> Reply
-    ensures { λ r. ⌜ ReplyDone (packInto (now (input .entry)) (length (now (out .entry)))) (now (out .entry)) (now (out .exit)) r ⌝ }
+    ensures { λ r. ⌜ ReplyDone (into packMost (packReply (now (input .entry))) (length (now (out .entry)))) (now (out .entry)) (now (out .exit)) r ⌝ }
 {
     if out.len() < PACK_MOST {
         return Reply::Refused(Refusal::ShortOutput(PACK_MOST));

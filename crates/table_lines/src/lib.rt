@@ -5,4 +5,5 @@ mod words;
 
 pub use bytes::first_of;
 pub use numbers::read_numbers;
+pub use words::starts_with;
 pub use words::word_of;

@@ -4,7 +4,7 @@ ghost use mathlib.Core.Path.{_≡_};
 ghost use Rattle.table.specs.Lines.{begins, wordOf};
 
 // Whether the line begins with these bytes.
-fn starts_with(line: &[u8], word: &[u8]) -> bool
+pub fn starts_with(line: &[u8], word: &[u8]) -> bool
     ensures { λ t. ⌜ t ≡ begins (now (word .entry)) (now (line .entry)) ⌝ }
 {
     let mut i: usize = 0;

@@ -8,9 +8,7 @@ use lib.Seq.{sets, take-at, take-append-le, take-take, take-length}
 use Rattle.lists.specs.Lists.{All, overStart}
 use Rattle.lists.proofs.Alls.{all-imp}
 use Rattle.lists.proofs.Writing.{take-drop-rest}
-use borrow.Author.Tests.{lt-leb}
 use Rattle.refusal.specs.declared.Refusal.{Refusal}
-use Rattle.refusal.specs.declared.Refusal.the-variants.{ShortOutput}
 use Rattle.refusal.specs.Checked.{Checked, accepted, refused, mapAccepted}
 use Rattle.packing.specs.Rows.{Row}
 use Rattle.layers.specs.Layers.{Layer, Located, allRows, headsOf, sizes, layersAt}
@@ -28,15 +26,12 @@ use Rattle.pack.specs.declared.PackAnswer.the-variants.{Accepted, Refused}
 use Rattle.pack.specs.declared.PackCheck.{PackCheck}
 use Rattle.pack.proofs.Accepted.{read-of-pack, blocks-stand}
 use Rattle.report.specs.Programs.{rest, refusedLine, orRefusedLine}
-use Rattle.report.specs.declared.Reply.the-variants.{Written, Refused as NotWritten}
-use Rattle.report.specs.Answers.{ReplyDone}
 use Rattle.report.specs.Replies.{Replied}
 use Rattle.report_lines.specs.Put.{Put}
 use Rattle.report_lines.proofs.Lengths.{rest-most}
 use Rattle.table.specs.declared.Word.the-variants.{Table}
-use Rattle.table.specs.Printing.{textLine, outText, layerText, tableText, tableReply, tableMost, tableInto, heldText, PackHeld}
+use Rattle.table.specs.Printing.{textLine, outText, layerText, tableText, tableReply, tableMost, heldText, PackHeld}
 use Rattle.table.proofs.Lengths.{text-length}
-use Rattle.table.proofs.Again.{tableInto-enough}
 use Rattle.line_printer.proofs.Stored.{put-both, put-replied}
 
 module _ (head : PackHead) (heads : List LayerHead) (dark : Dark) (rows out : List ℕ) (held : PackHeld head heads dark rows) (room : tableMost ≤ length out) where
@@ -168,14 +163,3 @@ refused-text input {check} is {why} a {before} {after} {next} r = go (readPack i
         let answer = ap (λ k. k .answer) h in
         let same : other ≡ why = cc in
         rw same r
-
--- any slice
-module _ (input before : List ℕ) where
-  pub table-refused : length before < tableMost → ReplyDone (tableInto input (length before)) before before (NotWritten (ShortOutput tableMost))
-  unfolding tableInto
-  table-refused short = rw (lt-leb tableMost (length before) short) (record { answer = refl; output-after = refl })
-
-  pub table-written : {n : ℕ} {after : List ℕ} → tableMost ≤ length before → Replied (tableReply input) n before after
-      → ReplyDone (tableInto input (length before)) before after (Written n)
-  table-written enough r =
-      rw (tableInto-enough input (length before) enough) (record { answer = ap Written (r .answered); output-after = r .written })

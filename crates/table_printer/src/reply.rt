@@ -10,7 +10,8 @@ ghost use Prim.Native.Nat.{_≤_};
 ghost use lib.ListN.{length};
 ghost use Rattle.report.specs.Answers.{ReplyDone};
 ghost use Rattle.report.specs.Replies.{Replied};
-ghost use Rattle.table.specs.Printing.{tableReply, tableMost, tableInto, PackHeld, heldText};
+ghost use Rattle.replies.specs.Replying.{into};
+ghost use Rattle.table.specs.Printing.{tableReply, tableMost, PackHeld, heldText};
 
 // Puts the text of a pack at the start of `out`, and answers its length.
 fn put_table(
@@ -53,7 +54,7 @@ fn table_line(input: &[u8], out: &mut [u8]) -> usize
 // Puts what `table` prints for the input at the start of `out`, and answers its length; a slice of fewer than 90,112 bytes is
 // refused.
 pub fn table_reply(input: &[u8], out: &mut [u8]) -> Reply
-    ensures { λ r. ⌜ ReplyDone (tableInto (now (input .entry)) (length (now (out .entry)))) (now (out .entry)) (now (out .exit)) r ⌝ }
+    ensures { λ r. ⌜ ReplyDone (into tableMost (tableReply (now (input .entry))) (length (now (out .entry)))) (now (out .entry)) (now (out .exit)) r ⌝ }
 {
     if out.len() < TABLE_MOST {
         return Reply::Refused(Refusal::ShortOutput(TABLE_MOST));

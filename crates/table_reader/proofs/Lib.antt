@@ -1,2 +1,4 @@
 pub mod Content
+pub mod Found
+pub mod Turns
 pub mod Walking

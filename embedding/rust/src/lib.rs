@@ -1,6 +1,9 @@
 //! Plans and checks placements of replicated records. Every call of the proved library is here, safe: slices in, a `Result` out.
 //! What is lent as `&mut` is written at its start alone, and after a refusal holds what it held before. `raw` has the sizes that
 //! serve for every input. docs/FORMATS.md has the files, the refusals and what each call promises.
+#[cfg(not(all(target_arch = "x86_64", target_os = "linux", target_pointer_width = "64")))]
+compile_error!("libmusseltwig.a is for x86-64 Linux");
+
 pub mod raw;
 mod refusal;
 
@@ -103,7 +106,8 @@ fn told<const N: usize>(call: impl FnOnce(*mut u64, usize) -> usize) -> Result<[
 /// The call with its slices as pointers and lengths, and its answer's numbers.
 macro_rules! call {
     ($name:ident, $needed:ident, $($slice:expr),* ; $($number:expr),* $(; $($lent:expr),*)?) => {{
-        // SAFETY: each pointer is a slice's, with the slice's own length; what is written is lent as `&mut`, so nothing overlaps it.
+        // SAFETY: each pointer is a slice's, with the slice's own length; what is written is lent as `&mut`, so nothing overlaps it;
+        // `counts` has the five that the call reads.
         told::<{ raw::$needed }>(|answer, length| unsafe {
             raw::$name($($slice.as_ptr(), $slice.len(),)* $($number,)* $($($lent.as_mut_ptr(), $lent.len(),)*)? answer, length)
         })
@@ -183,17 +187,18 @@ pub fn certify(rows: &[u8], out: &mut [u8]) -> Result<Planned, Refusal> {
     call!(musseltwig_certify, CERTIFY_ANSWER, rows; ; out).map(planned)
 }
 
-/// Rewrites a pack as joining does; answers its length in `out`.
+/// Rewrites a pack as joining does; answers its length in `out`, for which `raw::OUTPUT_MOST` bytes are always enough.
 pub fn join_one(first: &[u8], out: &mut [u8]) -> Result<usize, Refusal> {
     call!(musseltwig_join_one, JOIN_ONE_ANSWER, first; ; out).map(|a| a[1] as usize)
 }
 
-/// Joins two packs; answers the joined pack's length in `out`.
+/// Joins two packs; answers the joined pack's length in `out`. A place in a pack counts from the first byte of the pack that is
+/// refused, the first that is not accepted.
 pub fn join_two(first: &[u8], second: &[u8], out: &mut [u8]) -> Result<usize, Refusal> {
     call!(musseltwig_join_two, JOIN_TWO_ANSWER, first, second; ; out).map(|a| a[1] as usize)
 }
 
-/// Joins three packs; answers the joined pack's length in `out`.
+/// Joins three packs; answers the joined pack's length in `out`. Places are as in `join_two`.
 pub fn join_three(first: &[u8], second: &[u8], third: &[u8], out: &mut [u8]) -> Result<usize, Refusal> {
     call!(musseltwig_join_three, JOIN_THREE_ANSWER, first, second, third; ; out).map(|a| a[1] as usize)
 }
@@ -234,7 +239,7 @@ pub fn check_reply(placement: &[u8], out: &mut [u8]) -> Result<usize, Refusal> {
 }
 
 /// The rows of a placement, each a part of its bytes.
-#[derive(Clone, Copy, Debug)]
+#[derive(Clone, Debug)]
 pub struct Rows<'a> {
     bytes: &'a [u8],
     /// The walk's place, r, and the rows that are left.
@@ -261,13 +266,14 @@ impl<'a> Iterator for Rows<'a> {
 }
 
 /// Reads the number at a place.
-pub fn read_number(bytes: &[u8], at: u64) -> Result<Reading, Refusal> {
-    call!(musseltwig_read_number, READ_NUMBER_ANSWER, bytes; at).map(|a| Reading { value: a[1], next: a[2] as usize })
+pub fn read_number(bytes: &[u8], at: usize) -> Result<Reading, Refusal> {
+    call!(musseltwig_read_number, READ_NUMBER_ANSWER, bytes; at as u64)
+        .map(|a| Reading { value: a[1], next: a[2] as usize })
 }
 
 /// Reads the number at a place, which is to be lo to hi.
-pub fn read_within(bytes: &[u8], at: u64, lo: u64, hi: u64) -> Result<Reading, Refusal> {
-    call!(musseltwig_read_within, READ_WITHIN_ANSWER, bytes; at, lo, hi)
+pub fn read_within(bytes: &[u8], at: usize, lo: u64, hi: u64) -> Result<Reading, Refusal> {
+    call!(musseltwig_read_within, READ_WITHIN_ANSWER, bytes; at as u64, lo, hi)
         .map(|a| Reading { value: a[1], next: a[2] as usize })
 }
 

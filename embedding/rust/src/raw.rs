@@ -88,15 +88,15 @@ extern "C" {
     /// Checks a pack. Answer: 0, n, r, the first block's place, mu and m of five layers, how many nodes are out of
     /// service, and these.
     pub fn musseltwig_check_pack(pack: *const u8, pack_length: usize, answer: *mut u64, answer_length: usize) -> usize;
-    /// Checks a placement. Answer: 0, the kind, n, r, s, k, b, F, the first row's place, lambda and c of five layers,
-    /// how many nodes are out of service, and these; in kind 6 then g and the feeder of each node.
+    /// Checks a placement. Answer: 0, the kind, n, r, s, k, b, F, the first row's place, lambda and c of five
+    /// layers, how many nodes are out of service, and these; in kind 6 then g and the feeder of each node.
     pub fn musseltwig_check_placement(
         placement: *const u8,
         placement_length: usize,
         answer: *mut u64,
         answer_length: usize,
     ) -> usize;
-    /// Plans b records on a pack; work has at least s * (b + 1) entries, which are free afterwards, out 448 + b * r
+    /// Plans b records on a pack; work has at least s * (b + 1) entries, free afterwards, out at least 448 + b * r
     /// bytes. Answer: 0, the placement's length in out, F, and the counts of five layers.
     pub fn musseltwig_plan(
         pack: *const u8,
@@ -111,8 +111,9 @@ extern "C" {
         answer: *mut u64,
         answer_length: usize,
     ) -> usize;
-    /// Plans one of two operators alone, as many records as it is granted beside the other's wish. Answer: 0, the
-    /// placement's length in out, F, and the counts of five layers.
+    /// Plans one of two operators alone, as many records as it is granted beside the other's wish; work and out as
+    /// in musseltwig_plan, with the grant as b. Answer: 0, the placement's length in out, F, and the counts of five
+    /// layers.
     pub fn musseltwig_plan_operator(
         pack: *const u8,
         pack_length: usize,
@@ -154,9 +155,9 @@ extern "C" {
         answer: *mut u64,
         answer_length: usize,
     ) -> usize;
-    /// Certifies a file of bare rows: writes the placement with these rows, all in the layer with the highest figure;
-    /// out as in musseltwig_plan. Answer: 0, the placement's length in out, F, and the counts of five layers: b in
-    /// the layer taken, 0 in the others.
+    /// Certifies a file of bare rows: writes the placement with these rows, all in the layer with the highest
+    /// figure; out as in musseltwig_plan. Answer: 0, the placement's length in out, F, and the counts of five
+    /// layers: b in the layer taken, 0 in the others.
     pub fn musseltwig_certify(
         rows: *const u8,
         rows_length: usize,
@@ -165,7 +166,8 @@ extern "C" {
         answer: *mut u64,
         answer_length: usize,
     ) -> usize;
-    /// Joins one pack: rewrites it as a pack of kind 4. Answer: 0, the joined pack's length in out.
+    /// Joins one pack: rewrites it as kind 4; out has room for the joined pack: OUTPUT_MOST bytes always do. Answer:
+    /// 0, the joined pack's length in out.
     pub fn musseltwig_join_one(
         first: *const u8,
         first_length: usize,
@@ -174,7 +176,9 @@ extern "C" {
         answer: *mut u64,
         answer_length: usize,
     ) -> usize;
-    /// Joins two packs; the second's nodes come after the first's. Answer: 0, the joined pack's length in out.
+    /// Joins two packs; the second's nodes come after the first's; out as in musseltwig_join_one. A place in a pack
+    /// counts from the first byte of the pack that is refused, the first that is not accepted. Answer: 0, the joined
+    /// pack's length in out.
     pub fn musseltwig_join_two(
         first: *const u8,
         first_length: usize,
@@ -185,7 +189,7 @@ extern "C" {
         answer: *mut u64,
         answer_length: usize,
     ) -> usize;
-    /// Joins three packs. Answer: 0, the joined pack's length in out.
+    /// Joins three packs, as musseltwig_join_two joins two. Answer: 0, the joined pack's length in out.
     pub fn musseltwig_join_three(
         first: *const u8,
         first_length: usize,
@@ -208,7 +212,7 @@ extern "C" {
         answer: *mut u64,
         answer_length: usize,
     ) -> usize;
-    /// Finds the true worst case over all sets of k nodes, in kind 6 of k feeders, and writes the first such set as k
+    /// Finds the true worst case over all sets of k nodes, in kind 6 feeders, and writes the first such set as k
     /// bytes. Answer: 0, the fewest usable records.
     pub fn musseltwig_worst_case(
         placement: *const u8,
@@ -227,8 +231,8 @@ extern "C" {
         answer_length: usize,
     ) -> usize;
     /// Runs an outage log: event i is at times[i], of nodes[i], which goes down where downs[i] is not 0 and else
-    /// comes up. Answer: 0, the lowest number of usable records and the first event after which it stood; for an
-    /// empty log the number alone.
+    /// comes up; the three slices are equally long, else BAD_LENGTH. Answer: 0, the lowest number of usable records
+    /// and the first event after which it stood; for an empty log the number alone.
     pub fn musseltwig_replay(
         placement: *const u8,
         placement_length: usize,
@@ -250,8 +254,8 @@ extern "C" {
         answer: *mut u64,
         answer_length: usize,
     ) -> usize;
-    /// Writes the certificate line, `accepted F b k n most mean` or `refused number place`, and a newline; out has at
-    /// least 200 bytes. Answer: 0, the line's length in out.
+    /// Writes the certificate line, `accepted F b k n most mean` or `refused number place`, and a newline; out has
+    /// at least 200 bytes. Answer: 0, the line's length in out.
     pub fn musseltwig_check_reply(
         placement: *const u8,
         placement_length: usize,
@@ -267,8 +271,8 @@ extern "C" {
         answer: *mut u64,
         answer_length: usize,
     ) -> usize;
-    /// Steps a row walk. Answer: 0, where the row begins in placement and its length, 0 and 0 at the end; then at, r
-    /// and left of the next step.
+    /// Steps a row walk. Answer: 0, where the row begins in placement and its length, 0 and 0 at the end; the next
+    /// step's at, r and left.
     pub fn musseltwig_step(
         placement: *const u8,
         placement_length: usize,

@@ -104,7 +104,7 @@ impl Refusal {
         match self {
             Ended(_) => "the input ends too early: fetch the file again, or mend a count in its head that is too large",
             Malformed(_) => "a number has more than four bytes: the file was damaged there",
-            WrongKind => "not this kind of file: a pack begins with 1 or 4, a placement with 2, 3, 5 or 6",
+            WrongKind => "not this kind of file: a pack begins with 1 or 4, a placement with 2, 3, 5 or 6, bare rows with 7",
             OutsideLimits(_) => "a number is outside its limits: mend it",
             Trailing(_) => "bytes after the end: the file was joined with another, or a count in its head is too small",
             BadRow(_) => "a row is not ascending or names a node that is not there: mend the row",
@@ -114,12 +114,16 @@ impl Refusal {
             ShortWork(_) => "the working slice is too short: lend as many entries as the place says",
             ShortOutput(_) => "the output is too short: lend as many bytes or entries as the place says",
             BadOrder(_) => "s, k or b (place 0, 1, 2) is outside its limits: mend the order",
-            Unjoinable => "the packs can't be joined: take packs of one r, with at most 255 nodes, 4,096 blocks and mu's of 4,096 together",
+            Unjoinable => {
+                "the packs can't be joined: take packs of one r, with at most 255 nodes together, in each layer mu's whose \
+                 least common multiple (of packs with blocks there) is at most 4,096, and at most 4,096 blocks, each \
+                 counted multiple / mu times"
+            }
             BadWish => "a wish is 0 or above 4,096: mend it",
             OutOfService(_) => "a row names a node out of service: take the node off the list, or make the row of others",
             BadCounts => "no split has these counts: let them sum to b, with records only in layers below s that have blocks",
             TooManySets => "too many sets of nodes to go through: the figure and the curve still hold",
-            BadRounds => "the game is for 1 to 3 rounds, at most 10 nodes and 256 records",
+            BadRounds => "the game is for 1 to 3 rounds (q), q+2 to 10 nodes, in kind 6 feeders, and at most 256 records",
             EarlierEvent(_) => "an event is earlier than the one before: put the log in order",
             BadEvent(_) => "an event names no node, or changes nothing: an event is missing, or the log is another site's",
             SharedFeeder(_) => "a row has two nodes on one feeder: make it of nodes on different feeders",

@@ -134,8 +134,8 @@ fn call(what: u8, l: &mut Lent) -> Option<Numbers> {
     let order = Order { s: g[0], k: g[1], b: g[2] };
     let offered = |o: Offer| numbers([0, o.figure].into_iter().chain(o.counts).chain(o.copies));
     Some(match what {
-        4 => read(read_number(l.input, g[0])),
-        5 => read(read_within(l.input, g[0], g[1], g[2])),
+        4 => read(read_number(l.input, g[0] as usize)),
+        5 => read(read_within(l.input, g[0] as usize, g[1], g[2])),
         6 => pack(l),
         7 => placement(l),
         9 => one(write_number(&mut l.out, g[0])),

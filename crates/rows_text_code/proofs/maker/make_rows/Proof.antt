@@ -1,5 +1,5 @@
 -- `rows_text_code::maker::make_rows` meets its contract. Assumes nothing.
-use Rattle.table_reader.proofs.Walking.{room-same}
+use Rattle.table_reader.proofs.Turns.{room-same}
 use Rattle.rows_text_code.proofs.Making.{text-bad, text-fits, text-packed}
 use borrow.Author.Needs.{needs}
 use Rattle.rows_text_code.proofs.maker.make_rows.Statement.{statement}

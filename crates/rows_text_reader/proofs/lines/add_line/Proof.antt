@@ -1,5 +1,5 @@
 -- `rows_text_reader::lines::add_line` meets its contract. Assumes nothing.
-use Rattle.table_reader.proofs.Content.{comment-inside}
+use Rattle.table_reader.proofs.Found.{comment-inside}
 use Rattle.rows_text_reader.proofs.Content.{line-grown}
 use native.Mathlib.Omega.{arith}
 use borrow.Author.Needs.{needs}

@@ -2,7 +2,8 @@
 use Prim.Native.Nat.{_+_, _-_}
 use mathlib.Core.Path.{_≡_, refl, _∙_}
 use lib.ListN.{length, length-set}
-use Rattle.rows_text_reader.proofs.Walking.{ReadTurn, turn-start, room-same, end-within, turn-bad, turn-next, end-none, end-few, end-all}
+use Rattle.table_reader.proofs.Turns.{room-same, end-within}
+use Rattle.rows_text_reader.proofs.Walking.{ReadTurn, turn-start, turn-bad, turn-next, end-none, end-few, end-all}
 use native.Mathlib.Omega.{arith}
 use borrow.Author.Needs.{needs}
 use Rattle.rows_text_reader.proofs.reader.read_text.Statement.{statement}

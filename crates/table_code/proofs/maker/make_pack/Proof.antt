@@ -1,5 +1,5 @@
 -- `table_code::maker::make_pack` meets its contract. Assumes nothing.
-use Rattle.table_reader.proofs.Walking.{room-same}
+use Rattle.table_reader.proofs.Turns.{room-same}
 use Rattle.table_code.proofs.Making.{text-bad, text-fits, text-packed}
 use borrow.Author.Needs.{needs}
 use Rattle.table_code.proofs.maker.make_pack.Statement.{statement}

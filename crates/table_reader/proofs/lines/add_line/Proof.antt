@@ -1,5 +1,6 @@
 -- `table_reader::lines::add_line` meets its contract. Assumes nothing.
-use Rattle.table_reader.proofs.Content.{comment-inside, line-grown}
+use Rattle.table_reader.proofs.Found.{comment-inside}
+use Rattle.table_reader.proofs.Content.{line-grown}
 use native.Mathlib.Omega.{arith}
 use borrow.Author.Needs.{needs}
 use Rattle.table_reader.proofs.lines.add_line.Statement.{statement}

@@ -1,8 +1,8 @@
--- `rows_text_code::maker::write_draft` meets its contract. Assumes nothing.
-use Rattle.table_code.proofs.Making.{both-written}
+-- `draft_code::write_draft` meets its contract. Assumes nothing.
+use Rattle.draft_code.proofs.Written.{both-written}
 use borrow.Author.Needs.{needs}
-use Rattle.rows_text_code.proofs.maker.write_draft.Statement.{statement}
-use Rattle.rows_text_code.proofs.maker.write_draft.Tie as tie
+use Rattle.draft_code.proofs.write_draft.Statement.{statement}
+use Rattle.draft_code.proofs.write_draft.Tie as tie
 
 write-numbers-requires : tie.Need-write-numbers-requires
 write-numbers-requires c κs = search needs

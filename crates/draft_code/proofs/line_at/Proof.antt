@@ -1,8 +1,8 @@
--- `rows_text_code::maker::line_at` meets its contract. Assumes nothing.
-use Rattle.table_code.proofs.Making.{line-none, line-some}
+-- `draft_code::line_at` meets its contract. Assumes nothing.
+use Rattle.draft_code.proofs.Written.{line-none, line-some}
 use borrow.Author.Needs.{needs}
-use Rattle.rows_text_code.proofs.maker.line_at.Statement.{statement}
-use Rattle.rows_text_code.proofs.maker.line_at.Tie as tie
+use Rattle.draft_code.proofs.line_at.Statement.{statement}
+use Rattle.draft_code.proofs.line_at.Tie as tie
 
 above-requires : tie.Need-above-requires
 above-requires c κs = search needs
