@@ -19,8 +19,8 @@ after-few : (n w bound : ℕ) (tails : List Tail) (least : ℕ) → n ≡ suc w
 unfolding lowestCrowded
 after-few n w bound tails least e few =
     rw e
-    (sym (over-same (λ v least. lowestCrowded w bound (tailsAfter w v tails []) least) 256
-    (λ v least lt. lowest-few w bound (tailsAfter w v tails []) least (few v lt)) least))
+    (sym (over-same (λ v least. lowestCrowded w bound (tailsAfter w v tails []) least) 256 least
+    (λ v lt. lowest-few w bound (tailsAfter w v tails []) least (few v lt))))
 
 pub most-few : (w bound m : ℕ) (tails : List Tail) (least : ℕ) → 0 < w → m ≡ mostAfter w tails → m ≤ bound
     → least ≡ lowestCrowded w bound tails least

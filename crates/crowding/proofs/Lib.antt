@@ -17,6 +17,7 @@ pub mod LinkTails
 pub mod LinkRows
 pub mod CountTails
 pub mod Levels
+pub mod LevelWalk
 pub mod VisitLevel
 pub mod VisitChain
 pub mod VisitRows

@@ -89,17 +89,18 @@ all-member P v (u ∷ nodes) h m = go (member-cases v u nodes m) (all-member P v
     go (inl e) ih = subst P (sym e) (h .0)
     go (inr n) ih = ih n
 
-module _ (lo w v bound i : ℕ) (tails : List Tail) (good : GoodTails lo tails) (set : List ℕ) where
-  -- a node of a set that a tail holds
-  node-of-tail : 0 < count (meets (λ r. leb r i) (v ∷ set)) tails → (lo ≤ v) × (v < 256)
-  node-of-tail pos =
-      let z = passing-count (meets (λ r. leb r i) (v ∷ set)) tails pos in
-      let nodes = z .element .nodes in
-      let g = all-mem (λ t. GoodFrom lo (t .nodes)) good (z .listed) in
-      let held = and-right (leb (z .element .row) i) (holds nodes (v ∷ set)) (z .passes) in
-      let m = member-of-holds nodes (v ∷ set) held v (member-here v v set refl) in
-      (le-of-member lo nodes (g .0) v m, all-member (λ u. u < 256) v nodes (g .1) m)
+-- a node of a set that a tail holds
+pub node-of-tail : (P : ℕ → Bool) (lo v : ℕ) (tails : List Tail) → GoodTails lo tails → (set : List ℕ)
+    → 0 < count (meets P (v ∷ set)) tails → (lo ≤ v) × (v < 256)
+node-of-tail P lo v tails good set pos =
+    let z = passing-count (meets P (v ∷ set)) tails pos in
+    let nodes = z .element .nodes in
+    let g = all-mem (λ t. GoodFrom lo (t .nodes)) good (z .listed) in
+    let held = and-right (P (z .element .row)) (holds nodes (v ∷ set)) (z .passes) in
+    let m = member-of-holds nodes (v ∷ set) held v (member-here v v set refl) in
+    (le-of-member lo nodes (g .0) v m, all-member (λ u. u < 256) v nodes (g .1) m)
 
+module _ (lo w v bound i : ℕ) (tails : List Tail) (good : GoodTails lo tails) (set : List ℕ) where
   -- v and the set crowd the tails where the set crowds the tails after v
   crowds-after : Crowds lo (suc w) bound i tails (v ∷ set) → Crowds (suc v) w bound i (tailsAfter w v tails []) set
   crowds-after c =
@@ -118,7 +119,7 @@ module _ (lo w v bound i : ℕ) (tails : List Tail) (good : GoodTails lo tails) 
       let early = rw (count-after lo w v set (c .size) (c .rises) (λ r. leb r i) tails good) at (c .early) in
       record {
         size = ap suc (c .size);
-        rises = and-both (leb lo v) (ascending (suc v) set) (le→leb lo v (node-of-tail early .0)) (c .rises);
+        rises = and-both (leb lo v) (ascending (suc v) set) (le→leb lo v (node-of-tail (λ r. leb r i) lo v tails good set early .0)) (c .rises);
         many = rw (count-after lo w v set (c .size) (c .rises) (λ r. true) tails good) at (c .many);
         early = early;
       }
@@ -133,7 +134,7 @@ lowest-le (suc w) bound tails least =
     (λ v least. lowest-le w bound (tailsAfter w v tails []) least) 256 least
 
 -- every tail holds the empty set
-count-empty : (tails : List Tail) → count (meets (λ r. true) []) tails ≡ length tails
+pub count-empty : (tails : List Tail) → count (meets (λ r. true) []) tails ≡ length tails
 unfolding count holds every
 count-empty [] = refl
 count-empty (t ∷ tails) = ap suc (count-empty tails)
@@ -154,7 +155,7 @@ lowest-early (suc w) lo bound i tails good (v ∷ set) c least =
     (λ v least. lowest-le w bound (tailsAfter w v tails []) least)
     (lowest-early w (suc v) bound i (tailsAfter w v tails []) (good-after lo w v tails [] good tt) set
     (crowds-after lo w v bound i tails good set c))
-    256 least (node-of-tail lo w v bound i tails good set (c .early) .1)
+    256 least (node-of-tail (λ r. leb r i) lo v tails good set (c .early) .1)
 
 -- the number so far, or the row number of a tail that holds a crowded set
 pub lowest-found : (Q : Type 0) (w lo bound i : ℕ) (tails : List Tail) → GoodTails lo tails → (least : ℕ)

@@ -14,24 +14,23 @@ over-next f (suc v) least pos =
     let e : suc v - 1 ≡ v = omega arith in
     rw e
 
-pub over-from : (f : ℕ → ℕ → ℕ) (m n : ℕ) → m ≤ n → ((v least : ℕ) → m ≤ v → v < n → f v least ≡ least) → (least : ℕ)
+pub over-from : (f : ℕ → ℕ → ℕ) (m n least : ℕ) → m ≤ n → ((v : ℕ) → m ≤ v → v < n → f v least ≡ least)
     → overNodes f n least ≡ overNodes f m least
 unfolding overNodes
-over-from f m zero le same least =
+over-from f m zero least le same =
     let e : m ≡ 0 = omega arith in
     rw e
-over-from f m (suc v) le same least = go (leb m v) refl (λ le. over-from f m v le (λ u low mu uv. same u low mu (omega arith)) (f v least))
+over-from f m (suc v) least le same = go (leb m v) refl (λ le. over-from f m v least le (λ u mu uv. same u mu (omega arith)))
   where
-    go : (b : Bool) → leb m v ≡ b → (m ≤ v → overNodes f v (f v least) ≡ overNodes f m (f v least))
-        → overNodes f v (f v least) ≡ overNodes f m least
-    go true e ih = ih (leb-true m v e) ∙ ap (overNodes f m) (same v least (leb-true m v e) (omega arith))
+    go : (b : Bool) → leb m v ≡ b → (m ≤ v → overNodes f v least ≡ overNodes f m least) → overNodes f v (f v least) ≡ overNodes f m least
+    go true e ih = ap (overNodes f v) (same v (leb-true m v e) (omega arith)) ∙ ih (leb-true m v e)
     go false e ih =
         let all : m ≡ suc v = omega (arith, leb-false m v e) in
         rw all
 
-pub over-same : (f : ℕ → ℕ → ℕ) (n : ℕ) → ((v least : ℕ) → v < n → f v least ≡ least) → (least : ℕ) → overNodes f n least ≡ least
+pub over-same : (f : ℕ → ℕ → ℕ) (n least : ℕ) → ((v : ℕ) → v < n → f v least ≡ least) → overNodes f n least ≡ least
 unfolding overNodes
-over-same f n same least = over-from f 0 n (omega arith) (λ v low le lt. same v low lt) least
+over-same f n least same = over-from f 0 n least (omega arith) (λ v le lt. same v lt)
 
 pub over-congr : (f g : ℕ → ℕ → ℕ) → ((v least : ℕ) → f v least ≡ g v least) → (n least : ℕ) → overNodes f n least ≡ overNodes g n least
 unfolding overNodes

@@ -39,6 +39,17 @@ subsets-ascending lo (suc j) (v ∷ l) a =
     (λ s q. ascending-mono lo (suc v) s (omega (arith, leb→le lo v low)) q) (subsets (suc j) l)
     (subsets-ascending (suc v) (suc j) l rest))
 
+-- what holds of a row's nodes holds of its sets' nodes
+pub subsets-all : (P : ℕ → Type 0) (j : ℕ) (row : List ℕ) → All P row → All (All P) (subsets j row)
+unfolding subsets
+subsets-all P zero row h = (tt, tt)
+subsets-all P (suc j) [] h = tt
+subsets-all P (suc j) (v ∷ row) h =
+    all-append (All P) (map (λ s. v ∷ s) (subsets j row)) (subsets (suc j) row)
+    (all-map (All P) (λ s. v ∷ s) (subsets j row)
+    (all-imp (All P) (λ s. All P (v ∷ s)) (λ s q. (h .0, q)) (subsets j row) (subsets-all P j row (h .1))))
+    (subsets-all P (suc j) row (h .1))
+
 -- a row of fewer nodes has no set of j
 pub subsets-short : (j : ℕ) (l : List ℕ) → length l < j → subsets j l ≡ []
 unfolding subsets

@@ -21,5 +21,5 @@ pub lowest-few : (w bound : ℕ) (tails : List Tail) (least : ℕ) → length ta
 unfolding lowestCrowded
 lowest-few zero bound tails least few = rw (le-ltb bound (length tails) few)
 lowest-few (suc w) bound tails least few =
-    over-same (λ v least. lowestCrowded w bound (tailsAfter w v tails []) least) 256
-    (λ v least lt. lowest-few w bound (tailsAfter w v tails []) least (omega (arith, length-after-le w v tails []))) least
+    over-same (λ v least. lowestCrowded w bound (tailsAfter w v tails []) least) 256 least
+    (λ v lt. lowest-few w bound (tailsAfter w v tails []) least (omega (arith, length-after-le w v tails [])))

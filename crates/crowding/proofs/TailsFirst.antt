@@ -24,12 +24,12 @@ use Rattle.crowding.proofs.TailSets.{GoodFrom, GoodTails, meets}
 use Rattle.crowding.proofs.Lowest.{Crowds, lowest-le, lowest-early, lowest-found}
 
 -- the rows' tails: their nodes are the rows, and their numbers go on from i
-all-tails : (P : List ℕ → Type 0) (i : ℕ) (rows : List (List ℕ)) → All P rows → All (λ t. P (t .nodes)) (rowTails i rows)
+pub all-tails : (P : List ℕ → Type 0) (i : ℕ) (rows : List (List ℕ)) → All P rows → All (λ t. P (t .nodes)) (rowTails i rows)
 unfolding rowTails
 all-tails P i [] h = tt
 all-tails P i (row ∷ rows) h = (h .0, all-tails P (suc i) rows (h .1))
 
-count-tails : (f : List ℕ → Bool) (i : ℕ) (rows : List (List ℕ)) → count (λ t. f (t .nodes)) (rowTails i rows) ≡ count f rows
+pub count-tails : (f : List ℕ → Bool) (i : ℕ) (rows : List (List ℕ)) → count (λ t. f (t .nodes)) (rowTails i rows) ≡ count f rows
 unfolding rowTails count
 count-tails f i [] = refl
 count-tails f i (row ∷ rows) = ap (tally (f row)) (count-tails f (suc i) rows)

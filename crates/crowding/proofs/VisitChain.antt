@@ -27,10 +27,10 @@ use Rattle.crowding.proofs.Lengths.{zeros, slices-kept}
 use Rattle.crowding.proofs.Walks.{before-end}
 
 -- the level below that of a search, and the search there, for the nodes above v
-abbrev below : Search → Level
+abbrev pub below : Search → Level
 below search = record { r = search .level .r; w = search .level .w - 1 }
 
-abbrev searchBelow : (search : Search) (v : ℕ) → Search
+abbrev pub searchBelow : (search : Search) (v : ℕ) → Search
 searchBelow search v = record { level = below search; bound = search .bound; low = record { 0 = v + 1 }; high = search .high }
 
 lowest-row-at : (r : ℕ) (rows l : List ℕ) (least : ℕ) → lowestAt r least l ≡ lowestRow least (tailsAt r rows l)

@@ -2,7 +2,7 @@
 use crowding::Level;
 use packing::RowFound;
 ghost use mathlib.Core.Path.{_≡_};
-ghost use Prim.Native.Nat.{_*_, _≤_, _<_};
+ghost use Prim.Native.Nat.{_+_, _*_, _≤_, _<_};
 ghost use lib.Dec.{T};
 ghost use lib.ListN.{length};
 ghost use Rattle.lists.specs.Lists.{All};
@@ -10,6 +10,7 @@ ghost use Rattle.packing.specs.Rows.{ascending, rowsAt, firstCrowded};
 ghost use Rattle.packing.specs.Answers.{rowFound};
 ghost use Rattle.crowding.specs.Tails.{fewLoads};
 ghost use Rattle.crowding_pairs.specs.Codes.{fewPairs};
+ghost use Rattle.crowding_sums.specs.Sums.{nodeLimit, Settles};
 
 // Whether the sets are of one node and no node stands in more than `bound` of the rows, by one count of the bytes.
 fn few_loads(rows: &[u8], c: usize, r: usize, x: usize, bound: usize) -> bool
@@ -38,6 +39,38 @@ fn few_pairs(rows: &[u8], c: usize, r: usize, x: usize, bound: usize) -> bool
     crowding_pairs::most_pairs(rows, c, r) <= bound
 }
 
+// How many nodes there may be for sets of x+1 nodes to be counted by their sums.
+fn node_limit(x: usize) -> usize
+    ensures { λ n. ⌜ n ≡ nodeLimit (x + 1) ⌝ }
+{
+    if x == 2 {
+        return 31;
+    }
+    16
+}
+
+// Whether sets of three nodes or more are of so few nodes, and the rows so many, that the sets are counted by the sums of weights, and
+// no sum comes in more than `bound` of them.
+fn few_sums(rows: &[u8], c: usize, r: usize, x: usize, bound: usize) -> bool
+    requires { ⌜ (c ≤ 4096) × (r ≤ 5) × (x < r) × (c * r ≤ length (now rows)) ⌝ }
+    requires order { ⌜ All (λ row. T (ascending 0 row)) (rowsAt r c (now rows)) ⌝ }
+    ensures { λ few. ⌜ Settles few x bound (rowsAt r c (now (rows .entry))) ⌝ }
+{
+    if x < 2 {
+        return false;
+    }
+    if c < 256 {
+        return false;
+    }
+    let end = c * r;
+    let high = crowding_extremes::highest(&rows[0..end]);
+    let n = high.0 as usize + 1;
+    if n > node_limit(x) {
+        return false;
+    }
+    crowding_sums::most_summing(rows, c, r, x + 1, n) <= bound
+}
+
 // Refusal 7 of a layer: the first of c rows of r bytes, all ascending, that holds x+1 nodes which stand together in
 // more than `bound` of the rows.
 pub fn first_crowded(rows: &[u8], c: usize, r: usize, x: usize, bound: usize) -> RowFound
@@ -52,6 +85,9 @@ pub fn first_crowded(rows: &[u8], c: usize, r: usize, x: usize, bound: usize) ->
         return RowFound::Nothing;
     }
     if few_pairs(rows, c, r, x, bound) {
+        return RowFound::Nothing;
+    }
+    if few_sums(rows, c, r, x, bound) {
         return RowFound::Nothing;
     }
     let end = c * r;

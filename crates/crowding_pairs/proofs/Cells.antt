@@ -23,6 +23,16 @@ use Rattle.crowding_pairs.specs.Codes.{withLow, coded, Room, Raised}
 pub cell-fits : (stride v low cells : ℕ) → v < stride → low < stride → stride * stride ≤ cells → v * stride + low < cells
 cell-fits stride v low cells h l fits = omega (arith, run-end-le stride h)
 
+-- one cell is raised by one
+pub raised-one : (table : List ℕ) (q : ℕ) → q < length table → Raised (λ p. tally (eqb p q) 0) table (set table q (getD table q 0 + 1))
+raised-one table q fits = record { same = length-set table q (getD table q 0 + 1); cell = λ p. go p (eqb p q) refl }
+  where
+    go : (p : ℕ) (b : Bool) → eqb p q ≡ b → getD (set table q (getD table q 0 + 1)) p 0 ≡ getD table p 0 + tally (eqb p q) 0
+    go p true e =
+        let same : p ≡ q = eqb-true p q e in
+        rw (e, same, getD-set-same table q (getD table q 0 + 1) 0 fits)
+    go p false e = rw (e, getD-set-other table q p (getD table q 0 + 1) 0 (eqb-false p q e)) (omega arith)
+
 -- the pairs of `low` and the nodes before i are counted
 pub record After (stride low : ℕ) (nodes table₀ table : List ℕ) (i : ℕ) : Type 0 where
   pub within : i ≤ length nodes
@@ -48,17 +58,7 @@ module _ {stride low : ℕ} {nodes table₀ table : List ℕ} {i : ℕ} (a : Aft
         ← add-assoc (getD table₀ p 0) (withLow stride p low (take i nodes)) (tally (eqb p q) 0),
         ← a .cell p,
       )
-      (go (eqb p q) refl)
-    where
-      go : let q = getD nodes i 0 * stride + low in
-          (b : Bool) → eqb p q ≡ b → getD (set table q (getD table q 0 + 1)) p 0 ≡ getD table p 0 + tally (eqb p q) 0
-      go true e =
-          let q = getD nodes i 0 * stride + low in
-          let same : p ≡ q = eqb-true p q e in
-          rw (e, same, getD-set-same table q (getD table q 0 + 1) 0 fits)
-      go false e =
-          let q = getD nodes i 0 * stride + low in
-          rw (e, getD-set-other table q p (getD table q 0 + 1) 0 (eqb-false p q e)) (omega arith)
+      (raised-one table q fits .cell p)
 
   pub after-next : let q = getD nodes i 0 * stride + low in
       q < length table → After stride low nodes table₀ (set table q (getD table q 0 + 1)) (i + 1)

@@ -1,4 +1,3 @@
 pub mod Cells
 pub mod Turns
 pub mod Pairs
-pub mod Chained

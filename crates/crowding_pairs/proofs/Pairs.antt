@@ -10,7 +10,7 @@ use mathlib.Core.Option.{none}
 use lib.ListN.{length}
 use lib.Dec.{T, eqb, leb, ltb}
 use borrow.Author.Tests.{eq-eqb, eqb-true, leb-true, le-ltb}
-use Rattle.lists.specs.Lists.{All, tally, count, every, upTo}
+use Rattle.lists.specs.Lists.{All, tally, count, total, every, upTo}
 use Rattle.lists.proofs.Arith.{le-or-lt, run-end-le}
 use Rattle.lists.proofs.Tests.{T-true, true-T, false-T, and-left, and-right}
 use Rattle.lists.proofs.Alls.{all-imp, all-both}
@@ -30,7 +30,7 @@ member-all P v (w ∷ nodes) h m =
     ⊎-elim (λ e. rw e (h .0)) (λ n. member-all P v nodes (h .1) n) (member-cases v w nodes m)
 
 -- a member that passes is counted
-pub count-member : (f : ℕ → Bool) (v : ℕ) (nodes : List ℕ) → f v ≡ true → T (member v nodes) → 1 ≤ count f nodes
+count-member : (f : ℕ → Bool) (v : ℕ) (nodes : List ℕ) → f v ≡ true → T (member v nodes) → 1 ≤ count f nodes
 unfolding member count
 count-member f v [] e m = absurd m
 count-member f v (w ∷ nodes) e m = go (f w) refl (member-cases v w nodes m) (count-member f v nodes e)
@@ -64,7 +64,7 @@ has-pair stride u v lo (w ∷ row) lt a mu mv =
 -- so there are at most as many such rows as the number comes
 held-coded : (stride u v : ℕ) (rows : List (List ℕ)) → u < v → All (λ row. T (ascending 0 row)) rows
     → together rows (u ∷ v ∷ []) ≤ codedRows stride (v * stride + u) rows
-unfolding together count codedRows holds every
+unfolding together count total holds every
 held-coded stride u v [] lt a = omega arith
 held-coded stride u v (row ∷ rows) lt a =
     go (holds row (u ∷ v ∷ [])) refl (held-coded stride u v rows lt (a .1))

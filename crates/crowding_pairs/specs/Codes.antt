@@ -3,12 +3,10 @@ use Prim.Native.Nat.{ℕ, _+_, _*_, _≤_, _<_}
 use mathlib.Core.Path.{_≡_}
 use mathlib.Core.List.{List, [], _∷_, map}
 use lib.ListN.{length, getD}
-use mathlib.Core.Bool.{Bool, true, _&&_}
+use mathlib.Core.Bool.{Bool, _&&_}
 use lib.Dec.{eqb, leb}
-use Rattle.lists.specs.Lists.{All, count, largest, upTo}
-use Rattle.crowding.specs.declared.Search.{Search}
-use Rattle.crowding.specs.Tails.{Tail}
-use Rattle.crowding.specs.Chains.{AtMost, lowestChild}
+use Rattle.lists.specs.Lists.{All, count, total, largest, upTo}
+use Rattle.crowding.specs.Chains.{AtMost}
 
 -- how many of the nodes make the number p with the node `low` before them
 abbrev pub withLow : (stride p low : ℕ) → List ℕ → ℕ
@@ -20,22 +18,12 @@ coded stride p [] = 0
 coded stride p (v ∷ row) = withLow stride p v row + coded stride p row
 
 -- the same of all rows
-unfoldable pub codedRows : (stride p : ℕ) → List (List ℕ) → ℕ
-codedRows stride p [] = 0
-codedRows stride p (row ∷ rows) = coded stride p row + codedRows stride p rows
+abbrev pub codedRows : (stride p : ℕ) → List (List ℕ) → ℕ
+codedRows stride p rows = total (map (coded stride p) rows)
 
 -- how often the number comes that comes most often, of those of nodes below `stride`
 abbrev pub mostCoded : (stride : ℕ) → List (List ℕ) → ℕ
 mostCoded stride rows = largest (map (λ p. codedRows stride p rows) (upTo (stride * stride)))
-
--- m is that, and no number comes more often
-pub record MostCoded (stride : ℕ) (rows : List (List ℕ)) (m : ℕ) : Type 0 where
-  pub is : m ≡ mostCoded stride rows
-  pub most : (p : ℕ) → codedRows stride p rows ≤ m
-
--- the nodes of tails, as rows
-abbrev pub tailNodes : List Tail → List (List ℕ)
-tailNodes tails = map (λ t. t .nodes) tails
 
 -- a table has a cell for each number of a few nodes below `stride`, and each cell is at most `most`
 pub record Room (stride most : ℕ) (nodes table : List ℕ) : Type 0 where
@@ -70,9 +58,3 @@ pub record RowsRoom (rows : List ℕ) (c r stride : ℕ) (table : List ℕ) : Ty
 -- sets of two nodes, many rows, and no pair of nodes in more than `bound` of them: nothing is crowded
 abbrev pub fewPairs : (x bound : ℕ) (rows : List (List ℕ)) → Bool
 fewPairs x bound rows = eqb x 1 && (leb 512 (length rows) && leb (mostCoded 256 rows) bound)
-
--- a level's chains need no search: no set that is searched for stands in more than `bound` of their tails
-abbrev pub Settles : (settled : Bool) (search : Search) (rows heads counts next : List ℕ) → Type 0
-Settles settled search rows heads counts next =
-    settled ≡ true
-    → (least : ℕ) → least ≡ lowestChild (search .level .w) (search .bound) (search .level .r) rows heads counts next least

@@ -39,6 +39,10 @@ fn count_all(rows: &[u8], c: usize, r: usize, stride: usize, table: &mut [u16])
         count_rows(rows, c, 3, stride, table);
         return;
     }
+    if r == 2 {
+        count_rows(rows, c, 2, stride, table);
+        return;
+    }
     count_rows(rows, c, r, stride, table);
 }
 
@@ -50,7 +54,7 @@ fn larger(a: u16, b: u16) -> u16
 }
 
 // The largest count, 0 where there is none.
-pub(crate) fn most_of(table: &[u16]) -> u16
+pub fn most_of(table: &[u16]) -> u16
     ensures { λ most. ⌜ most ≡ largest (now (table .entry)) ⌝ }
 {
     let mut most: u16 = 0;

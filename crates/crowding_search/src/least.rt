@@ -28,8 +28,5 @@ pub fn least_crowded(rows: &[u8], c: usize, level: Level, bound: usize) -> Recor
         high,
     };
     let none = Record(65536);
-    if crate::settled::is_settled(rows, search, &heads, &counts, &next) {
-        return none;
-    }
     crate::visits::children(rows, search, &heads, &counts, &mut next, none)
 }

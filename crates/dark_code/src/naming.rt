@@ -47,7 +47,7 @@ fn names_marked(row: &[u8], marks: &[bool]) -> bool
 }
 
 // The first of the c rows of r bytes with a marked node.
-fn first_marked(rows: &[u8], c: usize, r: usize, marks: &[bool]) -> RowFound
+fn marked_row(rows: &[u8], c: usize, r: usize, marks: &[bool]) -> RowFound
     requires { ⌜ c * r ≤ length (now rows) ⌝ }
     requires { ⌜ length (now marks) ≡ 256 ⌝ }
     ensures { λ found. ⌜ found
@@ -64,6 +64,25 @@ fn first_marked(rows: &[u8], c: usize, r: usize, marks: &[bool]) -> RowFound
         j += 1;
     }
     RowFound::Nothing
+}
+
+// The same. For a length that is written as a number the compiler lays out the whole row.
+fn first_marked(rows: &[u8], c: usize, r: usize, marks: &[bool]) -> RowFound
+    requires { ⌜ c * r ≤ length (now rows) ⌝ }
+    requires { ⌜ length (now marks) ≡ 256 ⌝ }
+    ensures { λ found. ⌜ found
+        ≡ rowFound (firstWhere (any (λ v. getD (now (marks .entry)) v false)) (rowsAt r c (now (rows .entry)))) ⌝ }
+{
+    if r == 5 {
+        return marked_row(rows, c, 5, marks);
+    }
+    if r == 4 {
+        return marked_row(rows, c, 4, marks);
+    }
+    if r == 3 {
+        return marked_row(rows, c, 3, marks);
+    }
+    marked_row(rows, c, r, marks)
 }
 
 // The first of the c rows of r bytes that names a node out of service. Most files have none, and then no row is looked at.

@@ -40,12 +40,14 @@ fn write_lines(bytes: &[u8], head: PlacementHead, layers: [LayerHead; 5], out: &
     let first = head.first;
     let r = head.r;
     let b = head.b;
+    let mut fields = [0u8; 1024];
+    page_lines::put_fields(&mut fields);
     let mut i: usize = 0;
     while i < b {
         let number = Record(i);
         let layer = layer_of(layers, number);
         let from = first + i * r;
-        page_lines::put_record_line(out, 27 * i, number, layer, &bytes[from..from + r]);
+        page_lines::put_record_line(out, 27 * i, number, layer, &fields, &bytes[from..from + r]);
         i += 1;
     }
 }

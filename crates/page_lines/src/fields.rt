@@ -7,6 +7,7 @@ ghost use lib.ListN.{length};
 ghost use lib.Seq.{sets};
 ghost use Rattle.page.specs.Field.{blanks, field};
 ghost use Rattle.page.specs.Asked.{lead};
+ghost use Rattle.page_lines.specs.ByteFields.{byteFields};
 
 // The character of a field before its last, from the tenths of the number: a blank where there are none.
 fn leading(tenths: usize) -> u8
@@ -40,13 +41,33 @@ pub(crate) fn put_record(out: &mut [u8], at: usize, number: Record)
     put_right(out, at, number.0);
 }
 
-// The field of a node's number.
-pub(crate) fn put_node(out: &mut [u8], at: usize, node: Node)
-    requires { ⌜ at + 4 ≤ length (now out) ⌝ }
+// Puts the fields of the numbers from 0 to 255, one after another.
+pub fn put_fields(fields: &mut [u8])
+    requires { ⌜ length (now fields) ≡ 1024 ⌝ }
+    ensures { λ _. ⌜ now (fields .exit) ≡ byteFields ⌝ }
+{
+    let mut v: usize = 0;
+    while v < 256 {
+        put_right(fields, 4 * v, v);
+        v += 1;
+    }
+}
+
+// The field of a node's number, from `fields`.
+pub(crate) fn put_node(out: &mut [u8], at: usize, fields: &[u8], node: Node)
+    requires { ⌜ (at + 4 ≤ length (now out)) × (now fields ≡ byteFields) ⌝ }
     ensures { λ _. ⌜ now (out .exit) ≡ sets (now (out .entry)) at (field (node .0)) ⌝ }
 {
     let v = node.0;
-    put_right(out, at, v as usize);
+    let from = 4 * v as usize;
+    let first = fields[from];
+    let second = fields[from + 1];
+    let third = fields[from + 2];
+    let fourth = fields[from + 3];
+    out[at] = first;
+    out[at + 1] = second;
+    out[at + 2] = third;
+    out[at + 3] = fourth;
 }
 
 // The field of how many there are.

@@ -78,5 +78,8 @@ pub fn first_bad(rows: &[u8], c: usize, r: usize, n: usize) -> RowFound
     if r == 3 {
         return bad_row(rows, c, 3, n);
     }
+    if r == 2 {
+        return bad_row(rows, c, 2, n);
+    }
     bad_row(rows, c, r, n)
 }

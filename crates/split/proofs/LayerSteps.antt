@@ -13,7 +13,7 @@ use Rattle.lists.specs.Lists.{upTo}
 use Rattle.lists.proofs.Stores.{sets-start}
 use Rattle.lists.proofs.UpTo.{length-map-upTo, getD-map-upTo}
 use Rattle.packing.specs.Floors.{falling}
-use Rattle.packing.proofs.Growth.{floorsDown-zero, floorsDown-mono, floorsDown-mul-le, floorsDown-period, floorsDown-le, falling-pos, falling-le-120}
+use Rattle.packing.proofs.Growth.{floorsDown-zero, floorsDown-mono, floorsDown-add-le, floorsDown-mul-le, floorsDown-period, floorsDown-le, falling-pos, falling-le-120}
 use Rattle.layers.specs.declared.LayerHead.{LayerHead}
 use Rattle.placement.specs.Figure.{lostBy, loss}
 use Rattle.placement.specs.declared.Order.{Order}
@@ -39,9 +39,10 @@ module _ {cost : ℕ → ℕ} {period : ℕ} (r : Repeating cost period) (few : 
       rw (getD-costsOf cost period period few (le-refl period), getD-costsOf cost period (d % period) few (omega arith))
       (sym (cost-parts r d))
 
-  limits-stepsBy : 0 < size → size ≤ 4_096 → each ≤ noSplit → ((d : ℕ) → d * cost 1 ≤ cost d) → cost period < 2 ^ 60
+  limits-stepsBy : 0 < size → size ≤ 4_096 → each ≤ noSplit → ((d : ℕ) → d * cost 1 ≤ cost d)
+      → ((i j : ℕ) → cost i + cost j ≤ cost (i + j)) → cost period < 2 ^ 60
       → ((d : ℕ) → d ≤ 4_096 → cost d < 2 ^ 64) → StepLimits (stepsBy size each cost period)
-  limits-stepsBy pos most each-le single small fits =
+  limits-stepsBy pos most each-le single together small fits =
       record {
         size-pos = pos;
         size-le = most;
@@ -53,6 +54,9 @@ module _ {cost : ℕ → ℕ} {period : ℕ} (r : Repeating cost period) (few : 
         rising = λ i j h l.
             rw (getD-costsOf cost period i few (le-trans h l), getD-costsOf cost period j few l) (r .rising i j h);
         single = λ d. rw (getD-costsOf cost period 1 few (r .some), copiesCost-stepsBy d) (single d);
+        together = λ i j h.
+            rw (getD-costsOf cost period i few (omega arith), getD-costsOf cost period j few (omega arith), getD-costsOf cost period (i + j) few h)
+            (together i j);
         small = rw (getD-costsOf cost period period few (le-refl period)) small;
         fits = λ d h. rw (copiesCost-stepsBy d) (fits d h);
       }
@@ -86,6 +90,12 @@ module _ (s k x bound : ℕ) where
   lose-single : (d : ℕ) → d * copiesLose s k x bound 1 ≤ copiesLose s k x bound d
   unfolding lostBy
   lose-single d = let e : 1 * bound ≡ bound = omega arith in rw e (floorsDown-mul-le k s x bound d)
+
+  lose-together : (i j : ℕ) → copiesLose s k x bound i + copiesLose s k x bound j ≤ copiesLose s k x bound (i + j)
+  unfolding lostBy
+  lose-together i j =
+      let e : (i + j) * bound ≡ i * bound + j * bound = omega arith in
+      rw e (floorsDown-add-le k s x (i * bound) (j * bound))
 
   -- d copies lose less than 64 bits hold
   lose-le : (d most : ℕ) → x < 5 → k ≤ 254 → bound ≤ 4_096 → d ≤ most → copiesLose s k x bound d ≤ most * 4_096 * 254 ^ 5
@@ -137,12 +147,12 @@ steps-limits layers order x limits h = go (eq-zero-or-pos (layerAt layers x .siz
     go (inl e) =
         rw (steps-no-blocks layers (order .s) (order .k) x e)
         (limits-stepsBy marks-repeat (omega arith) 4_096 noSplit (omega arith) (omega arith) (omega arith)
-        (λ d. omega arith) (lit< tt) (λ d l. omega arith))
+        (λ d. omega arith) (λ i j. omega arith) (lit< tt) (λ d l. omega arith))
     go (inr p) =
         let period-le = falling-le-120 (order .s) x (limits .s-le) few in
         rw (steps-blocks layers (order .s) (order .k) x p)
         (limits-stepsBy (lose-repeat (order .s) (order .k) x _ h) period-le _ 1 p (limits .m-le x) (omega arith)
-        (lose-single (order .s) (order .k) x _)
+        (lose-single (order .s) (order .k) x _) (lose-together (order .s) (order .k) x _)
         (lt-of-le-of-lt (lose _ 120 period-le) (lit< tt))
         (λ d l. lt-of-le-of-lt (lose d 4_096 l) (lit< tt)))
 

@@ -1,10 +1,12 @@
 -- An entry of the line above with one copy more, which is one pass over the line. Assumes nothing.
-use Prim.Native.Nat.{ℕ, zero, suc, _+_, _*_, _-_, _≤_, min}
+use Prim.Native.Nat.{ℕ, zero, suc, _+_, _*_, _-_, _≤_, _<_, min}
 use native.Mathlib.Nat.{le-refl, add-zero, add-suc, suc-mul, mul-le-mul-right}
 use native.Mathlib.Omega.{arith}
 use mathlib.Core.Path.{_≡_, refl, _∙_}
+use mathlib.Core.Logic.{_⊎_, inl, inr}
 use mathlib.Core.List.{List}
 use lib.ListN.{getD}
+use Rattle.lists.proofs.Arith.{le-or-lt}
 use Rattle.split.specs.declared.Steps.{Steps}
 use Rattle.split.specs.Splits.{noSplit, least}
 use Rattle.split.specs.Table.{StepLimits, Rising, stepped, byPeriods, copiesUpTo}
@@ -52,3 +54,28 @@ module _ (u : Steps) (below : List ℕ) where
   copies-all-past limits d b (suc e) h g =
       let m : d * u .size ≤ (d + e) * u .size = mul-le-mul-right (u .size) (omega arith) in
       rw (add-suc d e) (copies-past limits (d + e) b (omega arith) (omega arith) ∙ copies-all-past limits d b e (omega arith) g)
+
+  -- one copy more costs no less where suc d copies cost all that the records which they hold add below
+  module _ (limits : StepLimits u) (w d : ℕ)
+      (steep : (i : ℕ) → i < w - d * u .size → byPeriods u below (suc d * u .size + i - u .size) ≤ getD (u .costs) (suc d) 0 + byPeriods u below (i - u .size)) where
+    copies-steep : (e b : ℕ) → b < w → suc (d + e) ≤ u .period → copiesUpTo u below (suc (d + e)) b ≡ copiesUpTo u below (d + e) b
+    copies-steep e b within few = go (le-or-lt b ((d + e) * u .size))
+      where
+        go : (b ≤ (d + e) * u .size) ⊎ ((d + e) * u .size < b) → copiesUpTo u below (suc (d + e)) b ≡ copiesUpTo u below (d + e) b
+        go (inl h) = copies-past limits (d + e) b few h
+        go (inr h) =
+            let l = least-suc (with b) (d + e) in
+            let fewer = least-le (with b) (d + e) e (omega arith) in
+            let more = limits .together e (suc d) (omega arith) in
+            let q : e + suc d ≡ suc (d + e) = omega arith in
+            let i = b - (d + e) * u .size in
+            let p : suc d * u .size + i - u .size ≡ b - e * u .size = omega arith in
+            let r : i - u .size ≡ b - suc (d + e) * u .size = omega arith in
+            let s = rw (p, r) at (steep i (omega arith)) in
+            rw l (omega (arith, rw q at more))
+
+    -- however many
+    pub copies-all-steep : (e b : ℕ) → b < w → d + e ≤ u .period → copiesUpTo u below (d + e) b ≡ copiesUpTo u below d b
+    copies-all-steep zero b within few = rw (add-zero d) refl
+    copies-all-steep (suc e) b within few =
+        rw (add-suc d e) (copies-steep e b within (omega arith) ∙ copies-all-steep e b within (omega arith))

@@ -3,7 +3,7 @@
 use Prim.Native.Nat.{ℕ, zero, suc, _+_, _*_, _-_, _≤_, _<_, min}
 use native.Mathlib.Nat.{le-refl, le-antisymm, le-of-lt, le-mul-of-pos-right, mul-le-mul-right, suc-mul}
 use native.Mathlib.Omega.{arith}
-use mathlib.Core.Path.{_≡_}
+use mathlib.Core.Path.{_≡_, refl, sym, _∙_}
 use mathlib.Core.Logic.{_⊎_, inl, inr}
 use mathlib.Core.List.{List}
 use lib.ListN.{getD}
@@ -69,6 +69,19 @@ module _ (size cost : ℕ) (below : List ℕ) (pos : 0 < size) where
           let more = le-stepped (stepped size cost below b - cost) (b - size)
           (λ d. let h = stepped-le b (suc d) in let e = withSteps-suc b d in omega arith) in
           omega arith
+
+  -- a step that costs the mark is of no use, so a cost above it may be taken for it
+  pub stepped-dear : Rising below → noSplit ≤ cost → (b : ℕ) → stepped size cost below b ≡ getD below b 0
+  stepped-dear r h b = let e = stepped-step b in let g = r .marked b in omega arith
+
+pub stepped-capped : (size cost : ℕ) (below : List ℕ) → 0 < size → Rising below → (b : ℕ)
+    → stepped size (min cost noSplit) below b ≡ stepped size cost below b
+stepped-capped size cost below pos r b = go (le-or-lt cost noSplit)
+  where
+    go : (cost ≤ noSplit) ⊎ (noSplit < cost) → stepped size (min cost noSplit) below b ≡ stepped size cost below b
+    go (inl h) = let e : min cost noSplit ≡ cost = omega arith in rw e refl
+    go (inr h) =
+        stepped-dear size (min cost noSplit) below pos r (omega arith) b ∙ sym (stepped-dear size cost below pos r (omega arith) b)
 
 -- one record more
 pub record-step : (each : ℕ) (below : List ℕ) (i : ℕ) {records under more : ℕ} → records ≡ stepped 1 each below (i - 1) → under ≡ getD below i 0

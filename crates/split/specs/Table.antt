@@ -71,8 +71,8 @@ copiesCost u d = d / u .period * getD (u .costs) (u .period) 0 + getD (u .costs)
 abbrev pub stepLoss : Steps → (c : ℕ) → ℕ
 stepLoss u c = min (c * u .each) (copiesCost u (copiesFor c (u .size)))
 
--- what the code asks of steps: costs that begin at 0 and never fall, of which one copy's is the least a copy, and sums and
--- products that fit
+-- what the code asks of steps: costs that begin at 0 and never fall, of which one copy's is the least a copy, of copies together
+-- no less than apart, and sums and products that fit
 pub record StepLimits (u : Steps) : Type 0 where
   pub size-pos : 0 < u .size
   pub size-le : u .size ≤ 4_096
@@ -83,6 +83,7 @@ pub record StepLimits (u : Steps) : Type 0 where
   pub none : getD (u .costs) 0 0 ≡ 0
   pub rising : (i j : ℕ) → i ≤ j → j ≤ u .period → getD (u .costs) i 0 ≤ getD (u .costs) j 0
   pub single : (d : ℕ) → d * getD (u .costs) 1 0 ≤ copiesCost u d
+  pub together : (i j : ℕ) → i + j ≤ u .period → getD (u .costs) i 0 + getD (u .costs) j 0 ≤ getD (u .costs) (i + j) 0
   pub small : getD (u .costs) (u .period) 0 < 2 ^ 60
   pub fits : (d : ℕ) → d ≤ 4_096 → copiesCost u d < 2 ^ 64
 

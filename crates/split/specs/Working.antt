@@ -1,8 +1,10 @@
 -- The working slice: its parts, and the lines of the planner's table that stand in it. Assumes nothing.
 use Prim.Native.Nat.{ℕ, suc, _+_, _*_, _-_, _^_, _≤_, _<_, min}
 use mathlib.Core.Path.{_≡_}
+use mathlib.Core.Bool.{Bool}
 use mathlib.Core.List.{List, map}
 use lib.ListN.{length, getD, take, drop}
+use lib.Dec.{ltb}
 use Rattle.lists.specs.Lists.{upTo}
 use Rattle.layers.specs.Answers.{five}
 use Rattle.layers.specs.declared.LayerHead.{LayerHead}
@@ -10,7 +12,7 @@ use Rattle.placement.specs.declared.Order.{Order}
 use Rattle.placement.specs.declared.Rule.the-variants.{NestedFloors}
 use Rattle.split.specs.declared.Steps.{Steps}
 use Rattle.split.specs.Splits.{noSplit, namedCounts}
-use Rattle.split.specs.Table.{Limits, StepLimits, Rising, tableLine, byPeriods, copiesUpTo}
+use Rattle.split.specs.Table.{Limits, StepLimits, Rising, tableLine, stepped, byPeriods, copiesUpTo}
 
 -- the k entries of l from place a on
 abbrev pub part : (a k : ℕ) → List ℕ → List ℕ
@@ -37,12 +39,30 @@ pub record Lowerable (at n cost : ℕ) (work line : List ℕ) : Type 0 where
   pub beside : n ≤ length line
   pub small : (i : ℕ) → i < n → cost + getD line i 0 < 2 ^ 16
 
+-- entry `shift + i` of a line is more than `cost` above entry i
+abbrev pub climbs : (shift cost : ℕ) (line : List ℕ) → (i : ℕ) → Bool
+climbs shift cost line i = ltb (cost + getD line i 0) (getD line (shift + i) 0)
+
+-- a line, and steps of `step` records at `cost` each, whose entries are to stand `size` places further on
+pub record Stepping (size step cost : ℕ) (line : List ℕ) : Type 0 where
+  pub size-le : size ≤ 4_096
+  pub step-pos : 0 < step
+  pub step-le : step ≤ 491_520
+  pub cost-le : cost ≤ noSplit
+  pub rising : Rising line
+  pub small : length line ≤ 4_097
+
+-- `periods` has the entries by such steps of fewer than i records
+pub record Periods (size step cost : ℕ) (line : List ℕ) (i : ℕ) (periods : List ℕ) : Type 0 where
+  pub room : length periods ≡ 8_193
+  pub entries : (j : ℕ) → j < size + i → getD periods j 0 ≡ stepped step cost line (j - size)
+
 -- the line at place `at` has the losses by records or by whole periods of copies; `periods` has those by whole periods, each
 -- a copy's records further on
 pub record ByPeriods (u : Steps) (under : List ℕ) (at w : ℕ) (work periods : List ℕ) : Type 0 where
   pub written : part at w work ≡ map (copiesUpTo u under 0) (upTo w)
-  pub room : w ≤ length periods
-  pub entries : (i : ℕ) → i < w → getD periods i 0 ≡ byPeriods u under (i - u .size)
+  pub room : w + u .size ≤ length periods
+  pub entries : (i : ℕ) → i < w + u .size → getD periods i 0 ≡ byPeriods u under (i - u .size)
 
 -- a layer's steps, and the line below it, which has an entry for `left` records
 pub record Countable (u : Steps) (below : List ℕ) (left : ℕ) : Type 0 where

@@ -1,2 +1,5 @@
 pub mod Raising
+pub mod Stepping
+pub mod Climbing
 pub mod Lowering
+pub mod Both

@@ -7,17 +7,19 @@ use mathlib.Core.Path.{_≡_, refl, sym, ap, ap₂, _∙_}
 use mathlib.Core.List.{List, map}
 use lib.ListN.{length, getD, set, length-set}
 use lib.Seq.{sets}
-use Rattle.lists.specs.Lists.{upTo}
+use borrow.Author.Tests.{ltb-false}
+use Rattle.lists.specs.Lists.{count, upTo}
 use Rattle.lists.proofs.UpTo.{map-upTo-congr, length-map-upTo}
 use Rattle.lists.proofs.Stores.{storedTo, stored-none, stored-next, length-stored}
 use Rattle.split.specs.declared.Steps.{Steps}
 use Rattle.split.specs.Splits.{noSplit}
-use Rattle.split.specs.Table.{StepLimits, copiesUpTo, lineEntry}
-use Rattle.split.specs.Working.{part, LineBelow, Lowerable, lowered, ByPeriods}
+use Rattle.split.specs.Table.{StepLimits, byPeriods, copiesUpTo, lineEntry}
+use Rattle.split.specs.Working.{part, LineBelow, Lowerable, lowered, climbs, ByPeriods}
 use Rattle.split.proofs.Parts.{part-sets-before, part-stored, getD-next, getD-stored, sets-sets, stored-same, stored-tail}
-use Rattle.split.proofs.Passes.{copies-next, copies-past, copies-all-past}
+use Rattle.split.proofs.Passes.{copies-next, copies-past, copies-all-past, copies-all-steep}
 use Rattle.split.proofs.Stepped.{stepped-le-mark}
-use Rattle.split_lines.proofs.Raising.{lineUnder, Raised, raised-all, Periods, whole-pos}
+use Rattle.split_lines.proofs.Raising.{whole-pos}
+use Rattle.split_lines.proofs.Climbing.{none-count}
 
 -- the entries before place i of the run are lowered
 pub record LoweredTo (at n cost : ℕ) (before line : List ℕ) (i : ℕ) (work : List ℕ) : Type 0 where
@@ -70,7 +72,7 @@ module _ {u : Steps} {at w : ℕ} {before periods : List ℕ} (limits : StepLimi
       }
 
   -- no entry by whole periods is above the mark
-  pub aside-le : (i : ℕ) → i < w → getD periods i 0 ≤ noSplit
+  pub aside-le : (i : ℕ) → i < w + u .size → getD periods i 0 ≤ noSplit
   aside-le i h =
       rw (aside .entries i h)
       (stepped-le-mark (u .period * u .size) (getD (u .costs) (u .period) 0) under (whole-pos limits) (below .rising) (i - u .size))
@@ -80,6 +82,15 @@ module _ {u : Steps} {at w : ℕ} {before periods : List ℕ} (limits : StepLimi
     lowerable {cost} turn small =
         record {
           fits = let s = r .same in let f = below .fits in omega arith;
+          beside = let f = aside .room in omega arith;
+          small = λ i h. let l = aside-le i (omega arith) in omega arith;
+        }
+
+    -- the entries a copy more further on
+    pub climbable : {cost : ℕ} → back < w → cost ≤ noSplit → Lowerable (back + u .size) (w - back) cost periods periods
+    climbable {cost} turn small =
+        record {
+          fits = let f = aside .room in omega arith;
           beside = let f = aside .room in omega arith;
           small = λ i h. let l = aside-le i (omega arith) in omega arith;
         }
@@ -137,6 +148,29 @@ module _ {u : Steps} {at w : ℕ} {before periods : List ℕ} (limits : StepLimi
         let e : d ≡ u .period - 1 = let f = r .few in omega arith in
         r .written ∙ ap (λ c. storedTo at before (copiesUpTo u under c) w) e
 
+    -- one copy more costs, at every entry, all that its records add: it and more are of no use
+    pub copied-enough : {cost : ℕ} → d + 1 < u .period → cost ≡ min (getD (u .costs) (d + 1) 0) noSplit
+        → count (climbs (back + u .size) cost periods) (upTo (w - back)) ≡ 0 → work ≡ storedTo at before (lineEntry u under) w
+    copied-enough {cost} more e none =
+        let a = r .at-copies in
+        let q : d + (u .period - 1 - d) ≡ u .period - 1 = omega arith in
+        r .written
+        ∙ ap (sets before at) (map-upTo-congr _ _ w (λ b l.
+        sym (rw q at (copies-all-steep u under limits w d steep (u .period - 1 - d) b l (omega arith)))))
+      where
+        steep : (i : ℕ) → i < w - d * u .size
+            → byPeriods u under (suc d * u .size + i - u .size) ≤ getD (u .costs) (suc d) 0 + byPeriods u under (i - u .size)
+        steep i h =
+            let a = r .at-copies in
+            let m = suc-mul d (u .size) in
+            let p : back + u .size + i ≡ suc d * u .size + i = omega arith in
+            let low : getD periods (back + u .size + i) 0 ≤ cost + getD periods i 0 =
+            ltb-false _ _ (none-count (climbs (back + u .size) cost periods) (w - back) none i (omega arith)) in
+            let c = rw (add-one d) at e in
+            let x = aside .entries i (omega arith) in
+            let y = aside .entries (suc d * u .size + i) (omega arith) in
+            omega (arith, x, y, rw p at low)
+
     -- copies past the line's start cost no less
     pub copied-past : w ≤ back → work ≡ storedTo at before (lineEntry u under) w
     copied-past h =
@@ -146,48 +180,3 @@ module _ {u : Steps} {at w : ℕ} {before periods : List ℕ} (limits : StepLimi
         r .written
         ∙ ap (sets before at) (map-upTo-congr _ _ w (λ b l.
         sym (rw e at (copies-all-past u under limits d b (u .period - 1 - d) (omega arith) (omega arith)))))
-
--- the line by records or by whole periods is written, and the passes may begin
-module _ {u : Steps} {at w i records : ℕ} {before work periods : List ℕ} (limits : StepLimits u) (below : LineBelow at w before)
-    (r : Raised (u .each) at w before (copiesUpTo u (lineUnder at w before) 0) i records work)
-    (p : Periods u (lineUnder at w before) i periods) (done : w ≤ i) where
-  abbrev first : ℕ → ℕ
-  first = copiesUpTo u (lineUnder at w before) 0
-
-  all : work ≡ storedTo at before first w
-  all = raised-all below r done
-
-  same-under : part (at - w) w work ≡ part (at - w) w before
-  same-under = let b = below .back in rw all (part-sets-before (map first (upTo w)) before at (at - w) w (omega arith))
-
-  pub first-below : LineBelow at w work
-  first-below =
-      record {
-        small = below .small;
-        back = below .back;
-        fits = rw (r .same) (below .fits);
-        rising = rw same-under (below .rising);
-      }
-
-  pub first-aside : ByPeriods u (part (at - w) w work) at w work periods
-  first-aside =
-      rw same-under
-      (record {
-        written = ap (part at w) all ∙ part-stored at before first w (below .fits);
-        room = let l = p .room in let s = below .small in omega arith;
-        entries = λ j h. p .by-periods j (omega arith);
-      })
-
-  pub both-same : {exit : List ℕ} → exit ≡ storedTo at work (lineEntry u (part (at - w) w work)) w → length exit ≡ length before
-  both-same e = length-stored at work (lineEntry u (part (at - w) w work)) w e ∙ r .same
-
-  -- the passes store over it
-  pub both-written : {exit : List ℕ} → exit ≡ storedTo at work (lineEntry u (part (at - w) w work)) w
-      → exit ≡ storedTo at before (lineEntry u (lineUnder at w before)) w
-  both-written e =
-      let a = length-map-upTo first w in
-      let b = length-map-upTo (lineEntry u (lineUnder at w before)) w in
-      e
-      ∙ ap (λ (z : List ℕ). storedTo at work (lineEntry u z) w) same-under
-      ∙ ap (λ (z : List ℕ). storedTo at z (lineEntry u (lineUnder at w before)) w) all
-      ∙ sets-sets before at (map first (upTo w)) (map (lineEntry u (lineUnder at w before)) (upTo w)) (a ∙ sym b) (rw b (below .fits))

@@ -14,7 +14,7 @@ use Rattle.split.specs.declared.Steps.{Steps}
 use Rattle.split.specs.Splits.{noSplit}
 use Rattle.split.specs.Table.{StepLimits, Rising, stepped, byPeriods, lineEntry}
 use Rattle.split.specs.Working.{part, LineBelow}
-use Rattle.split.proofs.Stepped.{stepped-zero, stepped-le-mark, stepped-step, record-step}
+use Rattle.split.proofs.Stepped.{stepped-zero, stepped-le-mark, stepped-dear, record-step}
 use Rattle.split.proofs.LineSteps.{lineEntry-records}
 use Rattle.lists.proofs.Stores.{storedTo, stored-none, stored-next}
 use Rattle.split.proofs.Parts.{under-eq}
@@ -79,10 +79,41 @@ pub raised-by-records : {u : Steps} {at w : ℕ} {before after : List ℕ} → S
 raised-by-records {u} {at} {w} {before} limits below dear e =
     e ∙ ap (sets before at) (map-upTo-congr _ _ w (λ b h. sym (lineEntry-records limits _ (below .rising) dear b)))
 
--- `periods` has the losses by whole periods before place i, each a copy's records further on
-pub record Periods (u : Steps) (under : List ℕ) (i : ℕ) (periods : List ℕ) : Type 0 where
-  pub room : length periods ≡ 8_193
-  pub by-periods : (j : ℕ) → j ≤ u .size + (i - 1) → getD periods j 0 ≡ byPeriods u under (j - u .size)
+-- the entries of the line below before place i stand in the line again
+pub record Repeated (at w : ℕ) (before : List ℕ) (i : ℕ) (work : List ℕ) : Type 0 where
+  pub within : i ≤ w
+  pub same : length work ≡ length before
+  pub written : work ≡ storedTo at before (λ j. getD (lineUnder at w before) j 0) i
+
+module _ {at w : ℕ} {before : List ℕ} (below : LineBelow at w before) where
+  abbrev again : ℕ → ℕ
+  again j = getD (lineUnder at w before) j 0
+
+  pub repeated-none : Repeated at w before 0 before
+  repeated-none = record { within = omega arith; same = refl; written = stored-none at before again }
+
+  module _ {i : ℕ} {work : List ℕ} (r : Repeated at w before i work) where
+    pub repeated-next : i < w → Repeated at w before (i + 1) (set work (at + i) (getD work (at - w + i) 0))
+    repeated-next turn =
+        record {
+          within = omega arith;
+          same = length-set work (at + i) (getD work (at - w + i) 0) ∙ r .same;
+          written = stored-next at before again i _ (r .written) (under-eq at w before again i (below .back) turn (r .written));
+        }
+
+    pub repeated-all : w ≤ i → work ≡ storedTo at before again w
+    repeated-all h =
+        let e : i ≡ w = let g = r .within in omega arith in
+        r .written ∙ ap (storedTo at before again) e
+
+-- and where a record costs the mark too, it is the line below again
+pub raised-repeated : {u : Steps} {at w : ℕ} {before after : List ℕ} → StepLimits u → LineBelow at w before
+    → min noSplit (u .size * u .each) ≤ getD (u .costs) 1 0 → noSplit ≤ u .each
+    → after ≡ storedTo at before (λ j. getD (lineUnder at w before) j 0) w
+    → after ≡ storedTo at before (lineEntry u (lineUnder at w before)) w
+raised-repeated {u} {at} {w} {before} limits below dear each e =
+    raised-by-records limits below dear
+    (e ∙ ap (sets before at) (map-upTo-congr _ _ w (λ b h. sym (stepped-dear 1 (u .each) _ (omega arith) (below .rising) each b))))
 
 -- a period of copies holds a record
 pub whole-pos : {u : Steps} → StepLimits u → 0 < u .period * u .size
@@ -90,49 +121,3 @@ whole-pos limits = mul-pos (limits .period-pos) (limits .size-pos)
 
 pub whole-le : {u : Steps} → StepLimits u → u .period * u .size ≤ 491_520
 whole-le limits = mul-le-mul (limits .period-le) (limits .size-le)
-
-module _ {u : Steps} {under : List ℕ} (limits : StepLimits u) (rising : Rising under) where
-  abbrev whole : ℕ
-  whole = getD (u .costs) (u .period) 0
-
-  pub periods-none : Periods u under 0 (replicate 8_193 0)
-  periods-none =
-      record {
-        room = refl;
-        by-periods = λ j h.
-            let e : j - u .size ≡ 0 = omega arith in
-            getD-zeros 8_193 j ∙ rw e (sym (stepped-zero (u .period * u .size) whole under (whole-pos limits) rising));
-      }
-
-  module _ {i : ℕ} {periods : List ℕ} (r : Periods u under i periods) where
-    pub earlier-le : (j : ℕ) → j ≤ u .size + (i - 1) → getD periods j 0 ≤ noSplit
-    earlier-le j h =
-        rw (r .by-periods j h) (stepped-le-mark (u .period * u .size) whole under (whole-pos limits) rising (j - u .size))
-
-    -- one period more, or all the records are below
-    pub by-period : (earlier copies below : ℕ) → earlier ≡ i - u .period * u .size → below ≡ getD under i 0
-        → copies ≡ min below (getD periods (u .size + earlier) 0 + whole) → copies ≡ byPeriods u under i
-    by-period earlier copies below earlier≡ below≡ copies≡ =
-        let p = whole-pos limits in
-        let e : u .size + earlier - u .size ≡ i - u .period * u .size = omega arith in
-        copies≡
-        ∙ ap₂ (λ a b. min a (b + whole)) below≡ (r .by-periods (u .size + earlier) (omega arith) ∙ ap (byPeriods u under) e)
-        ∙ sym (stepped-step (u .period * u .size) whole under p i)
-
-    module _ (copies : ℕ) (h : i < 4_097) (e : copies ≡ byPeriods u under i) where
-      pub periods-next : Periods u under (i + 1) (set periods (u .size + i) copies)
-      periods-next =
-          record {
-            room = length-set periods (u .size + i) copies ∙ r .room;
-            by-periods = λ j g. let here : i + 1 - 1 ≡ i = omega arith in stored j (eq-or-lt-of-le (rw here at g));
-          }
-        where
-          stored : (j : ℕ) → (j ≡ u .size + i) ⊎ (j < u .size + i)
-              → getD (set periods (u .size + i) copies) j 0 ≡ byPeriods u under (j - u .size)
-          stored j (inl q) =
-              let l = r .room in
-              let m = limits .size-le in
-              let b : u .size + i - u .size ≡ i = omega arith in
-              rw (q, b) (getD-set-same periods (u .size + i) copies 0 (omega arith) ∙ e)
-          stored j (inr g) =
-              getD-set-other periods (u .size + i) j copies 0 (λ p. omega arith) ∙ r .by-periods j (omega arith)

@@ -16,9 +16,9 @@ use borrow.Author.Needs.{needs}
 use Rattle.crowding_code.proofs.first_crowded.Statement.{statement}
 use Rattle.crowding_code.proofs.first_crowded.Tie as tie
 
--- where few loads and few pairs are ruled out, or not; and where a row number is found
+-- where few loads and few pairs are ruled out, or not
 abbrev paired : tie.After-least-crowded → tie.After-few-pairs
-paired c = c .before .before .before
+paired c = c .before .before .before .before .before
 
 abbrev told : tie.After-least-crowded → tie.After-few-loads
 told c = paired c .before .before
@@ -75,6 +75,12 @@ returns-3 c =
     (getD-all (λ v. v < 256) 0 (a .rows .now) (λ i lt. called .before .before .before .before .shared-slice-known .given i .fits)))
     (T-true few)))
 
+few-sums-requires : tie.Need-few-sums-requires
+few-sums-requires c κs = start (c .before .before .before) .pre
+
+returns-4 : tie.Need-returns-4
+returns-4 c = sym (ap rowFound (c .before .few-sums .ensures (c .if4 .taken)))
+
 mul-end : tie.Need-mul-end
 mul-end c = search needs
 
@@ -89,7 +95,7 @@ part-least-crowded-end c = search needs
 
 least-crowded-requires : tie.Need-least-crowded-requires
 least-crowded-requires c κs =
-    let s = start (c .before .before .before .before) in
+    let s = start (c .before .before .before .before .before .before) in
     let a = s .args in
     let pre = s .pre in
     let some : 0 < a .r = omega (arith, pre .0) in
@@ -100,20 +106,20 @@ least-crowded-requires c κs =
       order = taken-ascends (a .r) (a .c) (a .rows .now) (pre .0 .3) (pre .1) some;
     }
 
-returns-4 : tie.Need-returns-4
-returns-4 c =
+returns-5 : tie.Need-returns-5
+returns-5 c =
     let called = c .before .before in
     let a = start (told called) .args in
     found-row (called .least-crowded .result .0) (firstCrowded (a .x) (a .bound) (rowsAt (a .r) (a .c) (a .rows .now))) (first called)
-    (c .if4 .taken)
+    (c .if5 .taken)
 
-returns-5 : tie.Need-returns-5
-returns-5 c =
+returns-6 : tie.Need-returns-6
+returns-6 c =
     let called = c .before .before in
     let s = start (told called) in
     let a = s .args in
     let rows = rowsAt (a .r) (a .c) (a .rows .now) in
-    found-none (called .least-crowded .result .0) (firstCrowded (a .x) (a .bound) rows) (first called) (c .if4 .left)
+    found-none (called .least-crowded .result .0) (firstCrowded (a .x) (a .bound) rows) (first called) (c .if5 .left)
     (λ j e. omega (arith, first-crowded-below (a .x) (a .bound) rows j e, length-rowsAt (a .r) (a .c) (a .rows .now), s .pre .0))
 
 pub first-crowded-spec : {M : Type 1} → statement M
@@ -125,10 +131,12 @@ first-crowded-spec =
     returns-2
     few-pairs-requires
     returns-3
+    few-sums-requires
+    returns-4
     mul-end
     sub-least-crowded
     part-least-crowded-start
     part-least-crowded-end
     least-crowded-requires
-    returns-4
-    returns-5)
+    returns-5
+    returns-6)

@@ -22,10 +22,16 @@ returns-3 : tie.Need-returns-3
 returns-3 c = rw (c .before .if3 .taken) (c .bad-row3 .ensures)
 
 bad-row-requires-4 : tie.Need-bad-row-requires-4
-bad-row-requires-4 c κs = search needs
+bad-row-requires-4 c κs = rw (c .if4 .taken) at (c .before .before .before .before .before .pre)
 
 returns-4 : tie.Need-returns-4
-returns-4 c = search needs
+returns-4 c = rw (c .before .if4 .taken) (c .bad-row4 .ensures)
+
+bad-row-requires-5 : tie.Need-bad-row-requires-5
+bad-row-requires-5 c κs = search needs
+
+returns-5 : tie.Need-returns-5
+returns-5 c = search needs
 
 pub first-bad-spec : {M : Type 1} → statement M
 first-bad-spec =
@@ -38,4 +44,6 @@ first-bad-spec =
     bad-row-requires-3
     returns-3
     bad-row-requires-4
-    returns-4)
+    returns-4
+    bad-row-requires-5
+    returns-5)

@@ -1,78 +1,70 @@
--- `certify_most::most::most_together` meets its contract. The loop's invariant: the largest number is from `low` to `high`, and at most
--- the number of rows. Assumes nothing.
-use Prim.Native.Nat.{_+_, _-_, _/_, _≤_, _<_}
+-- `certify_most::most::most_together` meets its contract. Assumes nothing.
+use Prim.Native.Nat.{_<_}
+use mathlib.Core.Path.{_∙_}
 use native.Mathlib.Omega.{arith}
-use Rattle.packing.specs.Rows.{rowsAt}
-use Rattle.packing.proofs.RowsAt.{length-rowsAt}
-use Rattle.certify.specs.Certify.{mostTogether}
-use Rattle.certify.proofs.Most.{most-le-length}
-use Rattle.certify_most.proofs.most.Bounds.{above-of, within-of}
+use lib.Dec.{lit≤}
+use Rattle.crowding.proofs.Crowded.{rows-in-order}
+use Rattle.crowding.proofs.Order.{length-taken, taken-ascends}
+use Rattle.certify_most.proofs.most.Counted.{counted-nodes, searched-sets}
+use borrow.Author.Needs.{needs}
 use Rattle.certify_most.proofs.most.most_together.Statement.{statement}
 use Rattle.certify_most.proofs.most.most_together.Tie as tie
 
-abbrev Inv-loop : tie.InvT-loop
-Inv-loop rows c r x low₀ high₀ low high =
-    (low ≤ mostTogether x (rowsAt r c rows)) × (mostTogether x (rowsAt r c rows) ≤ high) × (high ≤ c)
+most-load-requires : tie.Need-most-load-requires
+most-load-requires c κs =
+    let s = c .before .before in
+    let a = s .args in
+    let p = s .pre .0 in
+    (p .within, (lit≤ tt, rows-in-order (a .r) (a .c) (a .rows .now) (λ i. c .before .shared-slice-known .given i .fits) (p .ordered)))
 
-abbrev μ-loop : tie.MeasureT-loop
-μ-loop rows c r x low₀ high₀ low high = high - low
+returns : tie.Need-returns
+returns c =
+    let s = c .before .before .before in
+    let a = s .args in
+    c .most-load .ensures
+    ∙ counted-nodes (a .r) (a .c) (a .rows .now) (λ i. c .before .before .shared-slice-known .given i .fits) (a .x) (c .before .if1 .taken)
 
-loop-holds : tie.Need-loop-holds Inv-loop μ-loop
-loop-holds c =
-    let a = c .before .args in
-    let most = most-le-length (a .x) (rowsAt (a .r) (a .c) (a .rows .now)) in
-    (omega arith, omega (arith, most, length-rowsAt (a .r) (a .c) (a .rows .now)), omega arith)
+mul-end : tie.Need-mul-end
+mul-end c = search needs
 
-sub-middle : tie.Need-sub-middle Inv-loop μ-loop
-sub-middle c = omega (arith, c .loop-test .taken)
+sub-most-held : tie.Need-sub-most-held
+sub-most-held c = search needs
 
-add-middle : tie.Need-add-middle Inv-loop μ-loop
-add-middle c = omega (arith, c .loop-test .taken, c .before .loop .inv)
+part-most-held-start : tie.Need-part-most-held-start
+part-most-held-start c = search needs
 
-is-crowded-requires : tie.Need-is-crowded-requires Inv-loop μ-loop
-is-crowded-requires c κs = c .before .before .before .pre
+part-most-held-end : tie.Need-part-most-held-end
+part-most-held-end c = search needs
 
-add-low : tie.Need-add-low Inv-loop μ-loop
-add-low c = omega arith
+most-held-requires : tie.Need-most-held-requires
+most-held-requires c κs =
+    let s = c .before .before .before in
+    let a = s .args in
+    let p = s .pre .0 in
+    let some : 0 < a .r = omega (arith, s .pre .1) in
+    record {
+      limits = record { one = s .pre .1; five = p .r-most };
+      few = p .few;
+      whole = length-taken (a .r) (a .c) (a .rows .now) (p .within);
+      order = taken-ascends (a .r) (a .c) (a .rows .now) (p .within) (p .ordered) some;
+    }
 
-loop-less : tie.Need-loop-less Inv-loop μ-loop
-loop-less c = omega arith
-
-loop-again : tie.Need-loop-again Inv-loop μ-loop
-loop-again c =
-    let a = c .before .before .before .before .before .args in
-    let l = c .before .before .before .loop in
-    let above : l .low + (l .high - l .low) / 2 < mostTogether (a .x) (rowsAt (a .r) (a .c) (a .rows .now)) =
-    above-of (c .before .is-crowded .ensures) (c .if1 .taken) in
-    omega arith
-
-loop-less-2 : tie.Need-loop-less-2 Inv-loop μ-loop
-loop-less-2 c = omega arith
-
-loop-again-2 : tie.Need-loop-again-2 Inv-loop μ-loop
-loop-again-2 c =
-    let a = c .before .before .before .before .before .args in
-    let l = c .before .before .before .loop in
-    let most : mostTogether (a .x) (rowsAt (a .r) (a .c) (a .rows .now)) ≤ l .low + (l .high - l .low) / 2 =
-    within-of (c .before .is-crowded .ensures) (c .if1 .left) in
-    omega arith
-
-returns : tie.Need-returns Inv-loop μ-loop
-returns c = omega (arith, c .loop-test .left, c .before .loop .inv)
+returns-2 : tie.Need-returns-2
+returns-2 c =
+    let s = c .before .before .before .before in
+    let a = s .args in
+    searched-sets (a .r) (a .c) (a .rows .now) (λ i. c .before .before .before .shared-slice-known .given i .fits) (a .x)
+    (c .most-held .result) (s .pre .0 .within) (s .pre .0 .ordered) (c .most-held .ensures)
 
 pub most-together-spec : {M : Type 1} → statement M
 most-together-spec =
     tie.close
     (tie.spec
-    Inv-loop
-    μ-loop
-    loop-holds
-    sub-middle
-    add-middle
-    is-crowded-requires
-    add-low
-    loop-less
-    loop-again
-    loop-less-2
-    loop-again-2
-    returns)
+    most-load-requires
+    returns
+    mul-end
+    sub-most-held
+    part-most-held-start
+    part-most-held-end
+    most-held-requires
+    returns-2)

@@ -31,13 +31,22 @@ returns-3 : tie.Need-returns-3
 returns-3 c = rw (c .before .before .before .before .if3 .taken) (c .before .before .count-rows3 .ensures)
 
 count-rows-requires-4 : tie.Need-count-rows-requires-4
-count-rows-requires-4 c κs = search needs
+count-rows-requires-4 c κs = rw (c .before .if4 .taken) at (c .before .before .before .before .before .before .before .pre)
 
 same-length-4 : tie.Need-same-length-4
 same-length-4 c = search needs
 
 returns-4 : tie.Need-returns-4
-returns-4 c = search needs
+returns-4 c = rw (c .before .before .before .before .if4 .taken) (c .before .before .count-rows4 .ensures)
+
+count-rows-requires-5 : tie.Need-count-rows-requires-5
+count-rows-requires-5 c κs = search needs
+
+same-length-5 : tie.Need-same-length-5
+same-length-5 c = search needs
+
+returns-5 : tie.Need-returns-5
+returns-5 c = search needs
 
 pub count-all-spec : {M : Type 1} → statement M
 count-all-spec =
@@ -54,4 +63,7 @@ count-all-spec =
     returns-3
     count-rows-requires-4
     same-length-4
-    returns-4)
+    returns-4
+    count-rows-requires-5
+    same-length-5
+    returns-5)

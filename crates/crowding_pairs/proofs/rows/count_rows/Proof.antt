@@ -2,12 +2,13 @@
 use Prim.Native.Nat.{_-_}
 use native.Mathlib.Omega.{arith}
 use borrow.Author.Needs.{needs}
-use Rattle.crowding_pairs.proofs.Turns.{Turns, turns-start, turn-fits, turn-room, turn-next, turns-all}
+use Rattle.crowding_pairs.specs.Codes.{coded}
+use Rattle.crowding_pairs.proofs.Turns.{coded-ten, Turns, turns-start, bytes-five, turn-fits, turn-room, turn-next, turns-all}
 use Rattle.crowding_pairs.proofs.rows.count_rows.Statement.{statement}
 use Rattle.crowding_pairs.proofs.rows.count_rows.Tie as tie
 
 abbrev Inv-loop : tie.InvT-loop
-Inv-loop rows c r stride table₀ i₀ at₀ table i at = Turns rows c r stride table₀ table i at
+Inv-loop rows c r stride table₀ i₀ at₀ table i at = Turns (coded stride) rows c r table₀ table i at
 
 abbrev μ-loop : tie.MeasureT-loop
 μ-loop rows c r stride table₀ i₀ at₀ table i at = c - i
@@ -17,10 +18,10 @@ abbrev start : tie.In-loop Inv-loop μ-loop → tie.Start Inv-loop μ-loop
 start c = c .before .before .before .before
 
 loop-holds : tie.Need-loop-holds Inv-loop μ-loop
-loop-holds c = turns-start (c .before .before .pre)
+loop-holds c = turns-start (c .before .before .pre .empty .none)
 
 add-end : tie.Need-add-end Inv-loop μ-loop
-add-end c = omega (arith, turn-fits (c .before .loop .inv) (start c .pre) (c .loop-test .taken))
+add-end c = omega (arith, turn-fits (c .before .loop .inv) (start c .pre .fit) (c .loop-test .taken))
 
 sub-count-row : tie.Need-sub-count-row Inv-loop μ-loop
 sub-count-row c = search needs
@@ -29,7 +30,7 @@ part-count-row-start : tie.Need-part-count-row-start Inv-loop μ-loop
 part-count-row-start c = search needs
 
 part-count-row-end : tie.Need-part-count-row-end Inv-loop μ-loop
-part-count-row-end c = omega (arith, turn-fits (c .before .loop .inv) (start c .pre) (c .loop-test .taken))
+part-count-row-end c = omega (arith, turn-fits (c .before .loop .inv) (start c .pre .fit) (c .loop-test .taken))
 
 count-row-requires : tie.Need-count-row-requires Inv-loop μ-loop
 count-row-requires c κs =
@@ -45,7 +46,10 @@ loop-less c = omega arith
 loop-again : tie.Need-loop-again Inv-loop μ-loop
 loop-again c =
     let t = c .before .before .before .before .before in
-    turn-next (t .before .loop .inv) (start t .pre) (t .loop-test .taken) (c .before .before .count-row .ensures)
+    let turn = t .before .loop .inv in
+    let fit = start t .pre .fit in
+    turn-next turn fit (t .loop-test .taken) (λ p. coded-ten (start t .args .stride) p _ (bytes-five turn fit (t .loop-test .taken)))
+    (c .before .before .count-row .ensures)
 
 same-length : tie.Need-same-length Inv-loop μ-loop
 same-length c = search needs

@@ -7,6 +7,7 @@ use borrow.Author.Needs.{needs}
 use Rattle.lists.proofs.Alls.{getD-all}
 use Rattle.packing.specs.Rows.{rowsAt}
 use Rattle.crowding.proofs.Follow.{at-most-zero}
+use Rattle.crowding_pairs.specs.Codes.{codedRows}
 use Rattle.crowding_pairs.proofs.Turns.{most-is}
 use Rattle.crowding_pairs.proofs.rows.most_pairs.Statement.{statement}
 use Rattle.crowding_pairs.proofs.rows.most_pairs.Tie as tie
@@ -41,7 +42,7 @@ returns c =
     let a = c .before .before .before .before .before .before .args in
     let counted = c .before .before .before .count-all in
     c .most-of .ensures
-    ∙ most-is 256 (rowsAt (a .r) (a .c) (a .rows .now)) (counted .last .1 .1 .1 .1 .0) (counted .ensures .same ∙ length-replicate {A = ℕ} 65536 0)
+    ∙ most-is (λ p. codedRows 256 p (rowsAt (a .r) (a .c) (a .rows .now))) 65536 (counted .last .1 .1 .1 .1 .0) (counted .ensures .same ∙ length-replicate {A = ℕ} 65536 0)
     (λ p. omega (arith, counted .ensures .cell p, at-most-zero 65536 p))
 
 pub most-pairs-spec : {M : Type 1} → statement M

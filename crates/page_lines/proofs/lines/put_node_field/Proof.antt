@@ -4,40 +4,36 @@ use Rattle.page.proofs.Writing.{node-stored, blank-stored}
 use Rattle.page_lines.proofs.lines.put_node_field.Statement.{statement}
 use Rattle.page_lines.proofs.lines.put_node_field.Tie as tie
 
-shared-slice-read-t9 : tie.Need-shared-slice-read-t9
-shared-slice-read-t9 c = search needs
+shared-slice-read-t10 : tie.Need-shared-slice-read-t10
+shared-slice-read-t10 c = search needs
 
 put-node-requires : tie.Need-put-node-requires
-put-node-requires c κs = search needs
+put-node-requires c κs = c .before .before .before .before .before .before .pre
 
 same-length : tie.Need-same-length
 same-length c = search needs
 
 returns : tie.Need-returns
 returns c =
-    let n = c .before .before in
-    let t = n .before .before .before in
-    let a = t .before .before .before .args in
-    node-stored (a .out .now) (a .row .now) (a .at) (a .j) (t .if1 .taken) (n .put-node .ensures)
+    let a = c .before .before .before .before .before .before .before .before .before .args in
+    node-stored (a .out .now) (a .row .now) (a .at) (a .j) (c .before .before .before .before .before .if1 .taken) (c .before .before .put-node .ensures)
 
 put-blanks-requires : tie.Need-put-blanks-requires
-put-blanks-requires c κs = search needs
+put-blanks-requires c κs = c .before .before .before .before .before .pre .0
 
 same-length-2 : tie.Need-same-length-2
 same-length-2 c = search needs
 
 returns-2 : tie.Need-returns-2
 returns-2 c =
-    let n = c .before .before in
-    let t = n .before .before in
-    let a = t .before .before .before .args in
-    blank-stored (a .out .now) (a .row .now) (a .at) (a .j) (t .if1 .left) (n .put-blanks .ensures)
+    let a = c .before .before .before .before .before .before .before .before .args in
+    blank-stored (a .out .now) (a .row .now) (a .at) (a .j) (c .before .before .before .before .if1 .left) (c .before .before .put-blanks .ensures)
 
 pub put-node-field-spec : {M : Type 1} → statement M
 put-node-field-spec =
     tie.close
     (tie.spec
-    shared-slice-read-t9
+    shared-slice-read-t10
     put-node-requires
     same-length
     returns

@@ -13,14 +13,14 @@ use Rattle.page_lines.proofs.lines.put_nodes.Statement.{statement}
 use Rattle.page_lines.proofs.lines.put_nodes.Tie as tie
 
 abbrev Inv-loop : tie.InvT-loop
-Inv-loop out₀ at row j₀ out j = (j ≤ 5) × (length out ≡ length out₀) × (out ≡ sets out₀ at (joined (nodeField row) j))
+Inv-loop out₀ at fields row j₀ out j = (j ≤ 5) × (length out ≡ length out₀) × (out ≡ sets out₀ at (joined (nodeField row) j))
 
 abbrev μ-loop : tie.MeasureT-loop
-μ-loop out₀ at row j₀ out j = 5 - j
+μ-loop out₀ at fields row j₀ out j = 5 - j
 
 loop-holds : tie.Need-loop-holds Inv-loop μ-loop
 loop-holds c =
-    let a = c .before .before .args in
+    let a = c .before .before .before .args in
     (search needs, refl, joined-none (nodeField (a .row .now)) (a .out .now) (a .at))
 
 mul-put-node-field : tie.Need-mul-put-node-field Inv-loop μ-loop
@@ -28,13 +28,13 @@ mul-put-node-field c = search needs
 
 add-put-node-field : tie.Need-add-put-node-field Inv-loop μ-loop
 add-put-node-field c =
-    let s = c .before .before .before .before .before in
+    let s = c .before .before .before .before .before .before in
     omega (arith, s .pre .0, s .good .0 .0)
 
 put-node-field-requires : tie.Need-put-node-field-requires Inv-loop μ-loop
 put-node-field-requires c κs =
-    let s = c .before .before .before .before .before in
-    omega (arith, s .pre .0, c .before .before .loop .inv .1)
+    let s = c .before .before .before .before .before .before in
+    (omega (arith, s .pre .0, c .before .before .loop .inv .1), s .pre .2)
 
 add-j : tie.Need-add-j Inv-loop μ-loop
 add-j c = search needs
@@ -46,7 +46,7 @@ loop-again : tie.Need-loop-again Inv-loop μ-loop
 loop-again c =
     let put = c .before .before .put-node-field in
     let l = c .before .before .before .before .before .loop in
-    let s = c .before .before .before .before .before .before .before .before in
+    let s = c .before .before .before .before .before .before .before .before .before in
     let a = s .args in (
       search needs,
       put .kept .0 ∙ l .inv .1,
@@ -59,7 +59,7 @@ same-length c = search needs
 
 returns : tie.Need-returns Inv-loop μ-loop
 returns c =
-    let a = c .before .before .before .before .args in
+    let a = c .before .before .before .before .before .args in
     let l = c .before .loop in
     let all : l .j ≡ 5 = omega (arith, l .inv .0, c .loop-test .left) in
     l .inv .2 ∙ ap (λ n. sets (a .out .now) (a .at) (joined (nodeField (a .row .now)) n)) all

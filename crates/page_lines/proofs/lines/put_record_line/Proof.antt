@@ -27,18 +27,15 @@ add-out-3 : tie.Need-add-out-3
 add-out-3 c = search needs
 
 slice-write-out-2 : tie.Need-slice-write-out-2
-slice-write-out-2 c =
-    let put = c .before .before in
-    simp length-set (omega (arith, put .put-record .kept .0, put .before .before .before .before .pre .2))
+slice-write-out-2 c = simp length-set (omega (arith, c .before .before .put-record .kept .0, c .before .before .before .before .before .before .before .pre .2))
 
 add-put-nodes : tie.Need-add-put-nodes
 add-put-nodes c = search needs
 
 put-nodes-requires : tie.Need-put-nodes-requires
 put-nodes-requires c κs =
-    let put = c .before .before .before in
-    let s = put .before .before .before .before in
-    (simp length-set (omega (arith, put .put-record .kept .0, s .pre .2)), s .pre .3)
+    let s = c .before .before .before .before .before .before .before .before in
+    (simp length-set (omega (arith, c .before .before .before .put-record .kept .0, s .pre .2)), s .pre .3, s .pre .4)
 
 add-out-4 : tie.Need-add-out-4
 add-out-4 c = search needs
@@ -46,8 +43,8 @@ add-out-4 c = search needs
 slice-write-out-3 : tie.Need-slice-write-out-3
 slice-write-out-3 c =
     let nodes = c .before .before in
-    let put = nodes .before .before .before .before in
-    let s = put .before .before .before .before in
+    let put = c .before .before .before .before .before .before in
+    let s = c .before .before .before .before .before .before .before .before .before .before .before in
     let a = s .args in
     let o = put .put-record .last .0 in
     let long = length-set (set o (a .at + 4) 32) (a .at + 5) (48 + a .layer) ∙ length-set o (a .at + 4) 32 in
@@ -56,8 +53,8 @@ slice-write-out-3 c =
 same-length : tie.Need-same-length
 same-length c =
     let nodes = c .before .before in
-    let put = nodes .before .before .before .before in
-    let a = put .before .before .before .before .args in
+    let put = c .before .before .before .before .before .before in
+    let a = c .before .before .before .before .before .before .before .before .before .before .before .args in
     let o = put .put-record .last .0 in
     length-set (nodes .put-nodes .last .0) _ _
     ∙ nodes .put-nodes .kept .0
@@ -68,8 +65,8 @@ same-length c =
 returns : tie.Need-returns
 returns c =
     let nodes = c .before .before in
-    let put = nodes .before .before .before .before in
-    let s = put .before .before .before .before in
+    let put = c .before .before .before .before .before .before in
+    let s = c .before .before .before .before .before .before .before .before .before .before .before in
     let a = s .args in
     record-stored (a .out .now) (a .at) (a .number .0) (a .layer) (a .row .now) (s .pre .0) (s .pre .3) (put .put-record .ensures)
     (nodes .put-nodes .ensures)

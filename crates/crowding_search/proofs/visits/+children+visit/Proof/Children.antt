@@ -97,7 +97,7 @@ module _ (t : ℕ) where
       (called .visit .kept .1 .1 .1 .0)
 
   pub same-length : At t lts.Need-same-length
-  same-length c = c .before .loop .inv .all-next
+  same-length c = c .before .loop .inv .walk .all-next
 
   pub returns : At t lts.Need-returns
   returns c = visiting-end (start (c .before) .pre .1) (c .before .loop .inv) (c .loop-test .left)

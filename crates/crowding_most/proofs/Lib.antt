@@ -1,0 +1,4 @@
+pub mod Levels
+pub mod Grow
+pub mod Growing
+pub mod Held

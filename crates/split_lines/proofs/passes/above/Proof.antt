@@ -1,0 +1,17 @@
+-- `split_lines::passes::above` meets its contract. Assumes nothing.
+use Prim.Native.Nat.{_<_}
+use borrow.Author.Tests.{lt-ltb, le-ltb}
+use native.Mathlib.Omega.{arith}
+use Rattle.lists.specs.Lists.{tally}
+use mathlib.Core.Path.{sym, ap}
+use Rattle.split_lines.proofs.passes.above.Statement.{statement}
+use Rattle.split_lines.proofs.passes.above.Tie as tie
+
+returns : tie.Need-returns
+returns c = rw (lt-ltb _ _ (c .if1 .taken))
+
+returns-2 : tie.Need-returns-2
+returns-2 c = rw (le-ltb _ _ (c .if1 .left))
+
+pub above-spec : {M : Type 1} → statement M
+above-spec = tie.close (tie.spec returns returns-2)
