@@ -6,16 +6,14 @@ use mathlib.Core.Path.{_≡_, refl}
 use mathlib.Core.List.{List}
 use Rattle.refusal.specs.Checked.{accepted}
 use Rattle.refusal.proofs.Checked.{bind-congr, mapAccepted-accepted}
-use Rattle.layers.specs.Layers.{headsOf}
 use Rattle.pack.specs.Pack.{Pack, readPack, checkPack}
 use Rattle.pack.proofs.Accepted.{read-of-pack}
-use Rattle.placement.specs.Placement.{OrderLimits}
 use Rattle.placement.specs.declared.Order.{Order}
-use Rattle.planner.specs.Planning.{workNeeded, outputNeeded, workMost, outputMost, checkOrder, checkBlocks}
+use Rattle.planner.specs.Planning.{workNeeded, outputNeeded, workMost, outputMost, checkOrder}
 use Rattle.planner.proofs.Checks.{order-within, work-good, output-good}
 use Rattle.commit.specs.Asking.{askLayers, ask}
-use Rattle.commit.specs.Committing.{checkCounts, commitPack, commit}
-use Rattle.operators.specs.Operators.{checkWish, grantedOrder, planOperator}
+use Rattle.commit.specs.Committing.{commitPack, commit}
+use Rattle.operators.specs.Operators.{grantedOrder, planOperator}
 use Rattle.operators.specs.declared.SharedOrder.{SharedOrder}
 use Rattle.report.proofs.Slices.{plan-most}
 

@@ -1,6 +1,6 @@
 -- Replies by hand, by computation: numbers that can't be read. Assumes nothing.
 use mathlib.Core.Path.{_≡_, refl}
-use mathlib.Core.List.{List, [], _∷_, _++_}
+use mathlib.Core.List.{[], _∷_, _++_}
 use Rattle.refusal.specs.declared.Refusal.the-variants.{BadOrder, BadCounts, BadWish}
 use Rattle.number.specs.Numbers.{readGroups, readNumber}
 use Rattle.report.specs.Programs.{digits, decimal, rest, refusedWord}

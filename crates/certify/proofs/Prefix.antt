@@ -13,14 +13,14 @@ use Rattle.refusal.specs.Checked.{accepted, mapAccepted}
 use Rattle.refusal.specs.declared.Refusal.the-variants.{WrongKind}
 use Rattle.refusal.proofs.Checked.{bind-congr, bind-elim, accepted-injective, require-bind-accepted}
 use Rattle.number.specs.declared.Reading.{Reading}
-use Rattle.number.specs.Numbers.{readNumber, readWithin}
+use Rattle.number.specs.Numbers.{readNumber}
 use Rattle.number.proofs.Laws.{read-next, read-local}
 use Rattle.number.proofs.Within.{read-of-readWithin}
 use Rattle.layers.specs.Layers.{Site, BaseReading, listNumbers, readNodes, readList, readDark, checkLength, checkEnd}
 use Rattle.layers.proofs.Listing.{dark-count}
 use Rattle.layers.proofs.NumbersRead.{reads-next}
 use Rattle.layers.proofs.Prefix.{readWithin-next, readWithin-take}
-use Rattle.certify.specs.Bare.{OrderReading, readSeven, readStart, readOrder, checkBareRows, readBare, checkBare}
+use Rattle.certify.specs.Bare.{readSeven, readStart, readOrder, checkBareRows, readBare, checkBare}
 use Rattle.certify.proofs.Accepted.{startNumbers, orderNumbers, held-of-readStart, held-of-readOrder}
 
 -- the place after the list: of 259 numbers at most

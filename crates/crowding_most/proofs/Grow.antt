@@ -4,7 +4,6 @@ use Prim.Native.Nat.{ℕ, suc, _-_, _≤_, _<_, max}
 use mathlib.Core.Path.{_≡_, refl, _∙_}
 use mathlib.Core.List.{List}
 use native.Mathlib.Omega.{arith}
-use lib.ListN.{length}
 use Rattle.packing.specs.Rows.{rowsAt}
 use Rattle.packing.specs.declared.Node.{Node}
 use Rattle.crowding.specs.declared.Chain.{Chain}

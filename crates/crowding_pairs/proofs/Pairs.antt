@@ -11,13 +11,13 @@ use lib.ListN.{length}
 use lib.Dec.{T, eqb, leb, ltb}
 use borrow.Author.Tests.{eq-eqb, eqb-true, leb-true, le-ltb}
 use Rattle.lists.specs.Lists.{All, tally, count, total, every, upTo}
-use Rattle.lists.proofs.Arith.{le-or-lt, run-end-le}
+use Rattle.lists.proofs.Arith.{le-or-lt}
 use Rattle.lists.proofs.Tests.{T-true, true-T, false-T, and-left, and-right}
 use Rattle.lists.proofs.Alls.{all-imp, all-both}
 use Rattle.lists.proofs.Finds.{firstWhere-none, any-none}
 use Rattle.lists.proofs.Largest.{largest-le}
 use Rattle.lists.proofs.UpTo.{getD-map-upTo}
-use Rattle.packing.specs.Rows.{ascending, member, distinct, holds, together, subsets, SetIn, crowded, firstCrowded}
+use Rattle.packing.specs.Rows.{ascending, member, holds, together, subsets, SetIn, crowded, firstCrowded}
 use Rattle.packing.proofs.Members.{member-cases, member-here, member-later, member-of-holds, distinct-head, ascending-tail, ascending-distinct, le-of-member}
 use Rattle.packing.proofs.Sets.{subsets-in, together-same}
 use Rattle.crowding_pairs.specs.Codes.{withLow, coded, codedRows, mostCoded, fewPairs}

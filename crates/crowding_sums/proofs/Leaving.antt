@@ -6,7 +6,7 @@ use mathlib.Core.Path.{_≡_, refl, sym, ap, ap₂, _∙_}
 use mathlib.Core.List.{List, [], _∷_, map}
 use lib.Dec.{eqb}
 use lib.ListN.{length, getD}
-use Rattle.lists.specs.Lists.{tally, count}
+use Rattle.lists.specs.Lists.{count}
 use Rattle.lists.proofs.Counts.{count-append, count-map, count-congr, tally-le-suc}
 use Rattle.packing.specs.Rows.{subsets}
 use Rattle.binomial.specs.Choose.{choose}

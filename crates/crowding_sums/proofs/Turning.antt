@@ -1,12 +1,12 @@
 -- The sums of a row's sets, and of all rows. Assumes nothing.
 use Prim.Native.Nat.{ℕ, _+_, _*_, _-_, _≤_, _<_}
 use native.Mathlib.Omega.{arith}
-use mathlib.Core.Path.{_≡_, refl, sym, ap, _∙_}
-use mathlib.Core.List.{List, [], map}
+use mathlib.Core.Path.{_≡_, refl}
+use mathlib.Core.List.{List, []}
 use lib.Dec.{eqb}
 use lib.ListN.{length, getD, take, drop}
 use borrow.Author.Tests.{eq-eqb}
-use Rattle.lists.specs.Lists.{All, tally, total}
+use Rattle.lists.specs.Lists.{tally}
 use Rattle.lists.proofs.Alls.{all-getD}
 use Rattle.packing.specs.Rows.{rowsAt}
 use Rattle.packing.proofs.RowsAt.{length-rowsAt, getD-rowsAt}

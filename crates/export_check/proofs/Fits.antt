@@ -1,7 +1,7 @@
 -- Every check's answer fits: an accepted file has at most 255 nodes. Assumes nothing.
 use Prim.Native.Nat.{ℕ, _≤_}
 use native.Mathlib.Omega.{arith}
-use mathlib.Core.Path.{_≡_, refl, ap}
+use mathlib.Core.Path.{_≡_, refl}
 use mathlib.Core.List.{List}
 use Rattle.refusal.specs.Checked.{Checked, accepted, refused}
 use Rattle.layers.specs.Layers.{Located}
@@ -11,10 +11,8 @@ use Rattle.pack.specs.Answers.{packChecked}
 use Rattle.pack.specs.declared.PackCheck.{PackCheck}
 use Rattle.pack.proofs.Accepted.{read-of-pack}
 use Rattle.placement.specs.Placement.{Placement, readPlacement}
-use Rattle.placement.specs.Answers.{placementHead, placementChecked}
-use Rattle.placement.specs.declared.PlacementHead.{PlacementHead}
+use Rattle.placement.specs.Answers.{placementChecked}
 use Rattle.placement.specs.declared.PlacementCheck.{PlacementCheck}
-use Rattle.placement.specs.declared.PlacementAnswer.the-variants.{Accepted}
 use Rattle.placement.proofs.Accepted.{read-of-placement}
 use Rattle.placement.proofs.Answered.{check-accepted}
 use Rattle.export_check.specs.Fits.{CheckFits}

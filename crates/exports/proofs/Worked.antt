@@ -1,8 +1,7 @@
 -- Worked cases of the numbers that a call tells. Assumes nothing.
-use Prim.Native.Nat.{ℕ}
 use mathlib.Core.Path.{_≡_, refl}
 use mathlib.Core.Bool.{true, false}
-use mathlib.Core.List.{List, [], _∷_}
+use mathlib.Core.List.{[], _∷_}
 use Rattle.refusal.specs.Refusals.{result, refusalOutcome}
 use Rattle.refusal.specs.declared.Refusal.the-variants.{Crowded}
 use Rattle.exports.specs.Exports.{numbers, status, fits}

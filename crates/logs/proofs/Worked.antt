@@ -1,7 +1,7 @@
 -- Small logs by hand, by computation. Assumes nothing.
 use mathlib.Core.Path.{_≡_, refl}
 use mathlib.Core.Bool.{true, false}
-use mathlib.Core.List.{List, [], _∷_, _++_}
+use mathlib.Core.List.{[], _∷_, _++_}
 use Rattle.number.specs.Numbers.{readGroups, readNumber}
 use Rattle.layers.specs.Layers.{readKind, readBase}
 use Rattle.placement.specs.Placement.{readPlacement, checkPlacement}

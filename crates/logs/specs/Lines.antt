@@ -6,7 +6,6 @@ use mathlib.Core.List.{List, [], _∷_}
 use lib.ListN.{take, drop}
 use lib.Dec.{leb, ltb, eqb}
 use Rattle.table.specs.Lines.{uncommented, isDigit, isBlank}
-use Rattle.replay.specs.declared.Event.{Event}
 use Rattle.logs.specs.declared.Typed.{Typed}
 use Rattle.logs.specs.declared.Typed.the-variants.{Number, Other}
 use Rattle.logs.specs.declared.State.{State}

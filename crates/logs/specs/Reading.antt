@@ -11,7 +11,6 @@ use Rattle.text.specs.declared.TextRefusal.{TextRefusal}
 use Rattle.text.specs.declared.TextRefusal.the-variants.{Unreadable as UnreadableLine, TooLong}
 use Rattle.logs.specs.declared.LogLine.{LogLine}
 use Rattle.logs.specs.declared.LogLine.the-variants.{Happens, Nothing, Unreadable}
-use Rattle.logs.specs.declared.LogEnd.{LogEnd}
 use Rattle.logs.specs.declared.LogEnd.the-variants.{Whole, Refused}
 use Rattle.logs.specs.declared.Log.{Log}
 use Rattle.logs.specs.Lines.{lineOf}

@@ -1,17 +1,16 @@
 -- The parts of a line, as the code lends them. Assumes nothing.
-use Prim.Native.Nat.{ℕ, suc, _+_, _-_, _≤_, _<_}
+use Prim.Native.Nat.{ℕ, _+_, _-_, _≤_, _<_}
 use native.Mathlib.Omega.{arith}
-use mathlib.Core.Path.{_≡_, refl, sym, _∙_, ap}
-use mathlib.Core.Bool.{Bool, true, false}
-use mathlib.Core.List.{List, [], _∷_}
-use lib.ListN.{length, take, drop, getD, length-drop, drop-of-length-le}
+use mathlib.Core.Path.{_≡_, refl, _∙_}
+use mathlib.Core.Bool.{true, false}
+use mathlib.Core.List.{List}
+use lib.ListN.{length, take, drop, length-drop, drop-of-length-le}
 use lib.Seq.{drop-cons}
 use Rattle.lists.proofs.Writing.{take-drop-rest}
 use Rattle.table.specs.Lines.{before, isBlank}
 use Rattle.logs.specs.declared.Typed.{Typed}
 use Rattle.logs.specs.declared.State.{State}
 use Rattle.logs.specs.declared.State.the-variants.{Down, Up, Other}
-use Rattle.logs.specs.declared.LogLine.{LogLine}
 use Rattle.logs.specs.declared.LogLine.the-variants.{Nothing, Unreadable}
 use Rattle.logs.specs.Lines.{noBlank, blanks, solid, wordOf, afterWord, sameBytes, downWord, upWord, numberOf, stateOf, withTime, lastWord, twoWords, threeWords, contentLine, lineOf}
 use Rattle.logs.proofs.Lines.{leading-le, after-word}

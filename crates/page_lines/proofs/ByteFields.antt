@@ -1,15 +1,15 @@
 -- The fields of every byte, one after another: each of them by its characters. Assumes nothing.
 use Prim.Native.Nat.{ℕ, _+_, _*_, _/_, _%_, _<_}
 use native.Mathlib.Omega.{arith}
-use native.Mathlib.Nat.{le-refl, add-zero}
-use mathlib.Core.Path.{_≡_, refl, sym, _∙_, ap}
+use native.Mathlib.Nat.{add-zero}
+use mathlib.Core.Path.{_≡_, sym, _∙_, ap}
 use mathlib.Core.List.{List, [], _++_, append-nil}
-use lib.ListN.{length, getD, set, take, drop, drop-of-length-le}
-use lib.Seq.{sets, getD-take, getD-drop, sets-eq}
+use lib.ListN.{length, getD, set, drop, drop-of-length-le}
+use lib.Seq.{sets, getD-take, getD-drop}
 use Rattle.lists.proofs.Stores.{sets-start}
 use Rattle.page.specs.Field.{field, digit}
 use Rattle.page.specs.Asked.{lead}
-use Rattle.page.proofs.Joined.{joined, length-joined, joined-part}
+use Rattle.page.proofs.Joined.{length-joined, joined-part}
 use Rattle.page.proofs.Fields.{field-characters, length-field}
 use Rattle.page.proofs.Writing.{field-stored}
 use Rattle.page_lines.specs.ByteFields.{byteFields}

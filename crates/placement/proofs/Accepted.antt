@@ -19,7 +19,7 @@ use Rattle.layers.specs.Layers.{Located, Site, sizes, allRows, headsOf, headNum
 use Rattle.layers.specs.declared.FileKind.the-variants.{Placement as PlacementKind}
 use Rattle.layers.proofs.NumbersRead.{Reads, reads-append, reads-split}
 use Rattle.layers.proofs.Heads.{SizesFit, HeadsWithin, baseNumbers, held-of-readBase, readBase-accepted, reads-of-readLayers, readLayers-accepted, fit-full}
-use Rattle.placement.proofs.Records.{RecordsTaken, FileReadAt, taken-of-checkRecords, checkRecords-accepted, taken-heads, taken-bytes, taken-of-read, file-readAt, read-fileAt}
+use Rattle.placement.proofs.Records.{FileReadAt, taken-of-checkRecords, checkRecords-accepted, taken-heads, taken-bytes, taken-of-read, file-readAt, read-fileAt}
 use Rattle.placement.proofs.Losses.{figureOf-le}
 use Rattle.placement.specs.Figure.{ruleOf, figureOf}
 use Rattle.placement.specs.declared.Order.{Order}

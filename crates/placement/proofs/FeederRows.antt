@@ -1,17 +1,17 @@
 -- Rows of feeders: a row without two nodes on one feeder is a row of feeders, in order; refusal 21's test says what document 02 says;
 -- replicas on failed feeders are counted through their nodes. Assumes nothing.
-use Prim.Native.Nat.{ℕ, suc, _≤_, _<_}
+use Prim.Native.Nat.{ℕ, suc, _<_}
 use native.Mathlib.Omega.{arith}
-use mathlib.Core.Path.{_≡_, refl, sym, _∙_, ap, ap₂, subst}
+use mathlib.Core.Path.{_≡_, refl, sym, _∙_, ap, subst}
 use mathlib.Core.Logic.{_↔_, _⊎_, inl, inr}
 use mathlib.Core.Bool.{Bool, true, false, not, _&&_}
 use mathlib.Core.List.{List, [], _∷_, _++_, map, flatten}
 use mathlib.Core.Option.{Option, none, some}
 use lib.ListN.{length, getD, length-map}
 use lib.Dec.{T, eqb, ltb, ltb→lt, lt→ltb}
-use Rattle.lists.specs.Lists.{All, later, count, every, firstWhere}
-use Rattle.lists.proofs.Tests.{T-true, true-T, false-T, T-not-false, bool-ext, and-left, and-right, and-both}
-use Rattle.lists.proofs.Alls.{all-imp, all-getD, all-map, all-append, all-append-left, all-append-right, every-all, all-every}
+use Rattle.lists.specs.Lists.{All, every, firstWhere}
+use Rattle.lists.proofs.Tests.{T-true, true-T, false-T, bool-ext, and-left, and-right, and-both}
+use Rattle.lists.proofs.Alls.{all-imp, all-getD, all-map, every-all, all-every}
 use Rattle.lists.proofs.Counts.{count-map, count-congr}
 use Rattle.lists.proofs.Finds.{firstWhere-none, none-firstWhere, some-firstWhere}
 use Rattle.lists.proofs.Listed.{firstWhere-some}
@@ -20,7 +20,7 @@ use Rattle.packing.specs.Failures.{hits, usable}
 use Rattle.packing.proofs.Members.{member-cases, member-here, member-later, distinct-head, distinct-tail, distinct-cons, ascending-distinct, row-distinct}
 use Rattle.layers.specs.Layers.{Layer, allRows, headsOf}
 use Rattle.layers.specs.Meaning.{FirstAt}
-use Rattle.placement.specs.Feeders.{Feeders, FeederLimits, FeedersFit, Shares, Apart, feederOf, ordered, feederRow, feederLayer, unitLayers, unitsOf, shares, firstSharing}
+use Rattle.placement.specs.Feeders.{Feeders, FeederLimits, FeedersFit, Shares, Apart, feederOf, feederRow, unitLayers, unitsOf, shares, firstSharing}
 use Rattle.placement.specs.Meaning.{SharedAt}
 use Rattle.placement.proofs.Ordered.{count-ordered, length-ordered, all-ordered, distinct-ordered, ascending-ordered}
 

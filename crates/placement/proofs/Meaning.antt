@@ -1,29 +1,27 @@
 -- A placement whose head's numbers are in order is refused exactly where the documents' table says, for its rows, the numbers after
 -- them and then its figure. Assumes nothing.
-use Prim.Native.Nat.{ℕ, _≤_, _<_}
+use Prim.Native.Nat.{ℕ, _≤_}
 use native.Mathlib.Omega.{arith}
-use native.Mathlib.Nat.{le-refl}
-use mathlib.Core.Path.{_≡_, refl, sym, _∙_, ap}
+use mathlib.Core.Path.{_≡_, refl, sym, _∙_}
 use mathlib.Core.Logic.{_↔_, inl, inr}
 use mathlib.Core.Bool.{Bool, true, false}
 use mathlib.Core.List.{List}
 use lib.ListN.{length}
 use lib.Dec.{eqb, leb}
-use borrow.Author.Tests.{eqb-false, ne-eqb, leb-true, leb-false, le-leb}
+use borrow.Author.Tests.{eqb-false, ne-eqb, leb-true, leb-false}
 use Rattle.refusal.specs.declared.Refusal.{Refusal}
 use Rattle.refusal.specs.declared.Refusal.the-variants.{Ended, WrongFigure}
 use Rattle.refusal.specs.Checked.{Checked, accepted, refused, _>>=_, require, mapAccepted}
 use Rattle.refusal.proofs.Checked.{accepted-injective}
-use Rattle.layers.specs.Layers.{Located, BaseReading, LayerHeads, sizes, headsOf, readBase, readLayers}
+use Rattle.layers.specs.Layers.{Located, BaseReading, LayerHeads, headsOf, readBase, readLayers}
 use Rattle.layers.specs.declared.FileKind.the-variants.{Placement as PlacementKind}
 use Rattle.layers.specs.Meaning.{standing, rowsEnd}
-use Rattle.layers.proofs.NumbersRead.{Reads, reads-le-length}
 use Rattle.placement.specs.Figure.{ruleOf, figureOf}
-use Rattle.placement.specs.Feeders.{FeedersReading, feederNumbers, readFeeders}
+use Rattle.placement.specs.Feeders.{FeedersReading, readFeeders}
 use Rattle.placement.specs.Placement.{Placement, TermsReading, Rows, placementLayerLimits, placementOf, readTerms, checkRecords, checkFigure, readPlacement, checkPlacement}
-use Rattle.placement.specs.Meaning.{RecordsGood, RecordsRefused, FeedersRefused, PlacementRefused}
+use Rattle.placement.specs.Meaning.{RecordsGood, PlacementRefused}
 use Rattle.placement.proofs.FeederNumbers.{reads-of-readFeeders, readFeeders-accepted}
-use Rattle.placement.proofs.Records.{RecordsTaken, taken-of-checkRecords, checkRecords-accepted, taken-heads}
+use Rattle.placement.proofs.Records.{taken-of-checkRecords, checkRecords-accepted, taken-heads}
 use Rattle.placement.proofs.RecordsMeaning.{feeders-refused-iff, when-short, when-feeders, records-refused-iff}
 
 module _ (s : List ℕ) {head : BaseReading} {order : TermsReading} {numbers : LayerHeads} (b : readBase PlacementKind s ≡ accepted head)

@@ -5,7 +5,7 @@ use native.Mathlib.Omega.{arith}
 use native.Mathlib.Nat.{zero-add}
 use mathlib.Core.Path.{_≡_, refl, sym, _∙_, ap, subst}
 use mathlib.Core.List.{List, [], _++_, flatten, append-assoc, append-nil}
-use mathlib.Core.Option.{Option, none, some}
+use mathlib.Core.Option.{some}
 use lib.ListN.{length, take, drop, length-append, length-take, length-drop, take-append-drop}
 use lib.Seq.{take-all, take-at, drop-at, drop-drop}
 use lib.Dec.{T, leb}
@@ -27,7 +27,7 @@ use Rattle.layers.proofs.NumbersRead.{Reads, reads-forms, forms-reads, reads-le
 use Rattle.layers.proofs.Packings.{packings-iff-uncrowded}
 use Rattle.layers.proofs.Service.{service-iff}
 use Rattle.layers.proofs.RowsChecked.{refuseRow-bind-accepted}
-use Rattle.placement.specs.Feeders.{Feeders, FeedersFit, FeedersReading, Apart, feederNumbers, unitLayers, unitsOf, firstSharing, readFeeders, checkApart}
+use Rattle.placement.specs.Feeders.{FeedersFit, Apart, feederNumbers, unitLayers, unitsOf, firstSharing, readFeeders, checkApart}
 use Rattle.placement.specs.Placement.{Rows, checkRecords}
 use Rattle.placement.proofs.FeederRows.{apart-iff, unit-rows}
 use Rattle.placement.proofs.FeederNumbers.{reads-of-readFeeders, readFeeders-accepted}

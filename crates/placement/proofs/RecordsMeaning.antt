@@ -2,11 +2,10 @@
 -- every file and any x. Assumes nothing.
 use Prim.Native.Nat.{ℕ, zero, suc, _+_, _*_, _-_, _≤_, _<_, max}
 use native.Mathlib.Omega.{arith}
-use native.Mathlib.Nat.{le-refl}
 use mathlib.Core.Path.{_≡_, refl, sym, _∙_, ap, subst}
 use mathlib.Core.Logic.{_↔_, inl, inr}
 use mathlib.Core.Bool.{Bool, true, false}
-use mathlib.Core.List.{List, [], _∷_}
+use mathlib.Core.List.{List, _∷_}
 use mathlib.Core.Option.{Option, none, some}
 use lib.ListN.{length, drop, length-drop}
 use lib.Dec.{T, leb}
@@ -30,7 +29,7 @@ use Rattle.layers.proofs.Layouts.{layersAt-lengths}
 use Rattle.layers.proofs.NumbersRead.{reads-le-length}
 use Rattle.layers.proofs.Meaning.{first-bad-meaning, first-crowded-of-meaning}
 use Rattle.layers.proofs.Service.{service-iff, first-naming-meaning}
-use Rattle.placement.specs.Feeders.{Feeders, FeedersReading, Apart, fed, feederNumbers, unitLayers, unitsOf, firstSharing, readEach, readNumbered, readFeeders, checkApart}
+use Rattle.placement.specs.Feeders.{FeedersReading, Apart, fed, feederNumbers, unitLayers, unitsOf, firstSharing, readEach, readNumbered, readFeeders, checkApart}
 use Rattle.placement.specs.Placement.{Rows, checkRecords}
 use Rattle.placement.specs.Meaning.{EachRefused, FeedersRefused, RecordsRefused}
 use Rattle.placement.proofs.FeederRows.{apart-iff, first-sharing-meaning, unit-rows}

@@ -1,5 +1,5 @@
 -- Request (b): the rows of two placements that differ only in the padding of their heads, and what follows the rows. Assumes nothing.
-use Prim.Native.Nat.{ℕ, zero, suc, _+_, _*_, _-_, _≤_, _<_, max}
+use Prim.Native.Nat.{ℕ, zero, suc, _+_, _*_, _-_, _≤_, max}
 use native.Mathlib.Omega.{arith}
 use mathlib.Core.Path.{_≡_, refl, sym, _∙_, ap}
 use mathlib.Core.Bool.{Bool, true, false}
@@ -17,7 +17,7 @@ use Rattle.layers.specs.declared.LayerHead.{LayerHead}
 use Rattle.layers.proofs.Padding.{Padded, padded-none, readWithin-padded}
 use Rattle.layers.proofs.RowsPadding.{leb-same, ascending-agree, service-agree, packings-agree}
 use Rattle.placement.specs.Feeders.{Feeders, FeedersReading, fed, unitLayers, firstSharing, readEach, readNumbered, readFeeders, checkApart}
-use Rattle.placement.specs.Placement.{Rows, checkRecords}
+use Rattle.placement.specs.Placement.{checkRecords}
 
 -- the same row found
 apart-agree : (feeders : Option Feeders) (r at at′ : ℕ) (rows : List (List ℕ))

@@ -3,23 +3,23 @@
 use Prim.Native.Nat.{ℕ, _*_, _≤_, _<_}
 use native.Mathlib.Omega.{arith}
 use native.Mathlib.Nat.{le-trans}
-use mathlib.Core.Path.{_≡_, refl, sym, _∙_}
+use mathlib.Core.Path.{_≡_, refl}
 use mathlib.Core.Bool.{Bool, _&&_}
-use mathlib.Core.List.{List, []}
+use mathlib.Core.List.{List}
 use mathlib.Core.Option.{Option, none, some}
 use lib.ListN.{length}
-use lib.Dec.{T, eqb, ltb, ltb→lt, lt→ltb, eqb→eq, eqb-refl}
+use lib.Dec.{T, eqb, ltb, ltb→lt, lt→ltb, eqb-refl}
 use Rattle.lists.specs.Lists.{All, count, any, upTo}
 use Rattle.lists.proofs.Tests.{T-true, true-T, and-left, and-right, and-both}
 use Rattle.lists.proofs.Alls.{all-imp, all-getD, every-all}
 use Rattle.lists.proofs.UpTo.{all-upTo}
 use Rattle.lists.proofs.AnyUpTo.{any-upTo-some}
-use Rattle.lists.proofs.Listed.{Passing, passing-any, count-mem}
+use Rattle.lists.proofs.Listed.{passing-any, count-mem}
 use Rattle.lists.proofs.DoubleCount.{count-mono-all, double-count, count-eqb-upTo}
 use Rattle.packing.specs.Rows.{ascending, Row}
 use Rattle.packing.specs.Failures.{Failure, hits, usable}
 use Rattle.layers.specs.Layers.{allRows}
-use Rattle.placement.specs.Feeders.{Feeders, FeedersFit, FeederLimits, feederOf, feederRow, unitLayers, unitsOf}
+use Rattle.placement.specs.Feeders.{Feeders, FeederLimits, feederOf, unitLayers, unitsOf}
 use Rattle.placement.specs.Placement.{Placement, GoodPlacement}
 use Rattle.placement.specs.Units.{units, unitRows}
 use Rattle.placement.proofs.FeederRows.{feeder-allRows, usable-feeders}

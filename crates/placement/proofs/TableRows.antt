@@ -4,10 +4,10 @@ use Prim.Native.Nat.{ℕ, _+_, _*_, _-_, _≤_, _<_}
 use native.Mathlib.Omega.{arith}
 use mathlib.Core.Path.{_≡_, refl, sym, _∙_, ap}
 use mathlib.Core.Bool.{Bool, true, false}
-use mathlib.Core.List.{List, [], _∷_, _++_, map, flatten}
+use mathlib.Core.List.{List, _++_, map, flatten}
 use mathlib.Core.Option.{Option, none, some}
 use lib.ListN.{length, take, drop, getD, replicate, length-append, length-replicate, length-map, getD-replicate, List·getD-eq-default, List·getD-append}
-use lib.Seq.{getD-take, getD-append-add, length-take-le}
+use lib.Seq.{getD-take, getD-append-add}
 use lib.Dec.{T, ltb, ltb→lt}
 use borrow.Author.Tests.{ltb-true, ltb-false, ne-eqb}
 use Rattle.lists.specs.Lists.{All}
@@ -24,7 +24,6 @@ use Rattle.placement.specs.Feeders.{Feeders, FeederLimits, FeedersFit, f
 use Rattle.placement.specs.Placement.{Placement, GoodPlacement, readPlacement}
 use Rattle.placement.specs.Units.{units, unitRows}
 use Rattle.placement.specs.Answers.{tableOf, unitsBy, rowByTable, rowsByTable}
-use Rattle.placement.specs.declared.FeederTable.{FeederTable}
 use Rattle.placement.proofs.Rows.{RowsIn, rows-in}
 use Rattle.placement.proofs.FeederRows.{feeder-allRows}
 use Rattle.placement.proofs.Units.{unit-rows-are}

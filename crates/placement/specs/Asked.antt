@@ -6,7 +6,7 @@ use mathlib.Core.Option.{some}
 use lib.ListN.{length, take, drop}
 use Rattle.lists.specs.Lists.{All}
 use Rattle.refusal.specs.declared.Refusal.the-variants.{SharedFeeder}
-use Rattle.refusal.specs.Checked.{Checked, accepted, _>>=_}
+use Rattle.refusal.specs.Checked.{Checked, _>>=_}
 use Rattle.packing.specs.Rows.{Row, firstBad}
 use Rattle.layers.specs.Layers.{Layer, Site, sizes, allRows, layersAt, refuseRow, checkAscending, checkService, checkPackings}
 use Rattle.layers.specs.Answers.{DarkFits}

@@ -15,7 +15,7 @@ use Rattle.number.specs.Numbers.{readWithin}
 use Rattle.number.specs.declared.Reading.{Reading}
 use Rattle.number.specs.Meaning.{WithinRefused}
 use Rattle.packing.specs.Rows.{inOrder, Row}
-use Rattle.layers.specs.Layers.{Layer, Packings, Site, InService, allRows}
+use Rattle.layers.specs.Layers.{Packings, Site, InService, allRows}
 use Rattle.layers.specs.Meaning.{FirstAt, BadAt, DarkAt, CrowdedAt, standing, rowsEnd}
 use Rattle.layers.specs.declared.LayerHead.{LayerHead}
 use Rattle.placement.specs.Figure.{ruleOf, figureOf}

@@ -10,7 +10,7 @@ use lib.ListN.{length}
 use lib.Dec.{T}
 use Rattle.refusal.specs.declared.Refusal.the-variants.{BadWish}
 use Rattle.refusal.specs.Refusals.{refusal}
-use Rattle.refusal.specs.Checked.{Checked, accepted, refused}
+use Rattle.refusal.specs.Checked.{Checked, refused}
 use Rattle.number.specs.Numbers.{Bytes}
 use Rattle.layers.specs.Layers.{headsOf}
 use Rattle.pack.specs.Pack.{Pack, PackFile, GoodPack}
@@ -19,7 +19,7 @@ use Rattle.split.specs.Splits.{hasBlock}
 use Rattle.planner.specs.Planning.{plan, workNeeded, outputNeeded}
 use Rattle.planner.specs.Answers.{PlanDone, planOutcome}
 use Rattle.planner.specs.declared.PlanResult.{PlanResult}
-use Rattle.operators.specs.Operators.{grant, Wish, wishTaken, grantedOrder, planOperator}
+use Rattle.operators.specs.Operators.{grant, Wish, wishTaken, planOperator}
 use Rattle.operators.specs.declared.SharedOrder.{SharedOrder}
 use Rattle.operators.proofs.Grants.{grants-fit, grant-most, grant-least, grant-half, grant-whole}
 use Rattle.operators.proofs.Wishes.{wish-taken, wish-outside, own-refused, other-refused, both-taken}

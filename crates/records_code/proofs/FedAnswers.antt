@@ -20,15 +20,13 @@ use Rattle.refusal.proofs.Checked.{verdict-good, verdict-refused, refused-not-a
 use Rattle.packing.specs.Rows.{Row, inOrder, distinct, rowsAt, firstBad}
 use Rattle.packing.proofs.Test.{good-iff-in-order}
 use Rattle.layers.specs.Layers.{Layer, Site, sizes, allRows, layersAt, refuseRow, checkLength, checkEnd, checkAscending, checkService, checkPackings}
-use Rattle.layers.specs.Answers.{nodesArray}
 use Rattle.layers.specs.declared.LayerHead.{LayerHead}
 use Rattle.layers.proofs.Layouts.{layersAt-lengths}
 use Rattle.layers_code.proofs.RowsAnswers.{allRows-layersAt}
-use Rattle.placement.specs.Feeders.{Feeders, FeederLimits, FeedersReading, feederOf, ordered, unitLayers, shares, readNumbered, readFeeders, checkApart}
+use Rattle.placement.specs.Feeders.{Feeders, FeedersReading, feederOf, ordered, unitLayers, shares, readNumbered, readFeeders, checkApart}
 use Rattle.placement.specs.Placement.{Rows, checkRecords}
 use Rattle.placement.specs.Answers.{tableOf, feedersRead, recordsCheck}
 use Rattle.placement.specs.Asked.{TableFits, tableFeeders, feedersChecked, fedRowsChecked}
-use Rattle.placement.specs.declared.FeederTable.{FeederTable}
 use Rattle.placement.specs.declared.FeedersRead.{FeedersRead}
 use Rattle.placement.specs.declared.RecordsCheck.{RecordsCheck}
 use Rattle.placement.proofs.FeederNumbers.{Numbered, reads-of-readNumbered}

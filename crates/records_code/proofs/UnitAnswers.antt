@@ -2,10 +2,10 @@
 use Prim.Native.Nat.{ℕ, _+_, _*_, _-_, _≤_, _<_}
 use native.Mathlib.Omega.{arith}
 use native.Mathlib.Nat.{mul-le-mul-right, le-of-lt}
-use mathlib.Core.Path.{_≡_, refl, sym, _∙_, ap, subst}
+use mathlib.Core.Path.{_≡_, refl, sym, _∙_, ap}
 use mathlib.Core.Bool.{not}
 use mathlib.Core.List.{List, [], _∷_, _++_, map, flatten}
-use mathlib.Core.Option.{Option, none, some}
+use mathlib.Core.Option.{none, some}
 use lib.ListN.{length, take, drop, length-append, length-drop, length-map}
 use lib.Seq.{drop-at, length-take-le}
 use lib.Dec.{T}
@@ -15,8 +15,8 @@ use Rattle.lists.proofs.Writing.{givenBack, take-drop-rest, append-rest}
 use Rattle.lists.proofs.Tests.{and-left}
 use Rattle.refusal.specs.declared.Refusal.the-variants.{SharedFeeder}
 use Rattle.refusal.specs.declared.Verdict.{Verdict}
-use Rattle.refusal.specs.declared.Verdict.the-variants.{Good, Refused}
-use Rattle.refusal.specs.Checked.{Checked, accepted, _>>=_, verdict}
+use Rattle.refusal.specs.declared.Verdict.the-variants.{Refused}
+use Rattle.refusal.specs.Checked.{_>>=_, verdict}
 use Rattle.packing.specs.Rows.{ascending, inOrder, Row, rowsAt, firstBad}
 use Rattle.packing.specs.Answers.{rowFound}
 use Rattle.packing.specs.declared.RowFound.{RowFound}
@@ -26,14 +26,14 @@ use Rattle.packing.proofs.Test.{good-iff-in-order}
 use Rattle.packing.proofs.Found.{rowFound-at, rowFound-nothing}
 use Rattle.packing.proofs.RowsAt.{length-rowsAt, rowsAt-lengths}
 use Rattle.lists.proofs.Finds.{some-firstWhere}
-use Rattle.layers.specs.Layers.{Layer, sizes, allRows, headsOf, layersAt, refuseRow, checkPackings}
+use Rattle.layers.specs.Layers.{Layer, sizes, allRows, headsOf, layersAt, checkPackings}
 use Rattle.layers.specs.Asked.{Ascending}
 use Rattle.layers.specs.declared.LayerHead.{LayerHead}
 use Rattle.layers.proofs.Layouts.{headsOf-layersAt, flatten-layersAt, layersAt-flatten}
 use Rattle.layers_code.proofs.RowsAnswers.{allRows-layersAt}
-use Rattle.placement.specs.Feeders.{Feeders, FeederLimits, feederRow, ordered, unitLayers, shares, checkApart}
+use Rattle.placement.specs.Feeders.{Feeders, feederRow, unitLayers, shares, checkApart}
 use Rattle.placement.specs.Answers.{tableOf, rowByTable, rowsByTable}
-use Rattle.placement.specs.Asked.{TableFits, FeedersAsked, FeedersPut, tableFeeders, unitsChecked, feedersChecked}
+use Rattle.placement.specs.Asked.{FeedersAsked, FeedersPut, tableFeeders, unitsChecked, feedersChecked}
 use Rattle.placement.specs.declared.FeederTable.{FeederTable}
 use Rattle.placement.proofs.Ordered.{length-ordered}
 use Rattle.placement.proofs.FeederRows.{first-bad-is-sharing, feeder-allRows, unit-heads}

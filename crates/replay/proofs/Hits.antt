@@ -1,19 +1,19 @@
 -- The records' replicas on nodes that are down, raised and lowered one entry at a time. Assumes nothing.
-use Prim.Native.Nat.{ℕ, zero, suc, _+_, _-_, _≤_, _<_}
+use Prim.Native.Nat.{ℕ, suc, _+_, _-_, _≤_, _<_}
 use native.Mathlib.Omega.{arith}
 use native.Mathlib.Numerals.{add-one}
-use mathlib.Core.Path.{_≡_, refl, sym, _∙_, ap, ap₂}
-use mathlib.Core.Bool.{Bool, true, false}
+use mathlib.Core.Path.{_≡_, refl, sym, _∙_, ap}
+use mathlib.Core.Bool.{false}
 use mathlib.Core.List.{List}
-use lib.ListN.{length, getD, set, take, length-set}
+use lib.ListN.{length, getD, set, length-set}
 use lib.Dec.{ltb, eqb}
 use Rattle.lists.specs.Lists.{tally, count}
 use Rattle.lists.proofs.Counts.{count-le-length}
-use Rattle.worst.specs.Records.{among, few, raisedTo, loweredTo}
+use Rattle.worst.specs.Records.{few, raisedTo, loweredTo}
 use Rattle.worst.specs.Searches.{Named}
 use Rattle.worst.specs.declared.Entries.{Entries}
 use Rattle.worst.proofs.Among.{among-mono}
-use Rattle.worst.proofs.Hits.{count-set, threshold, reached-le, few-after, among-itself, Inside, length-raised, length-lowered, getD-raised, getD-lowered}
+use Rattle.worst.proofs.Hits.{count-set, threshold, reached-le, few-after, among-itself, Inside, getD-raised, getD-lowered}
 use Rattle.replay.specs.Board.{indexOf, hitsOf, Raising, Restoring, Hit}
 use Rattle.replay.proofs.Parts.{getD-index, getD-hits, length-hits, length-index, before-hit, hits-hit, index-before}
 

@@ -2,20 +2,18 @@
 use Prim.Native.Nat.{ℕ, zero, suc, _+_, _≤_, _<_}
 use native.Mathlib.Omega.{arith}
 use native.Mathlib.Nat.{add-zero}
-use mathlib.Core.Path.{_≡_, refl, sym, _∙_, ap, ap₂, subst}
+use mathlib.Core.Path.{_≡_, refl, _∙_}
 use mathlib.Core.Logic.{_⊎_, inl, inr, ⊎-elim}
 use mathlib.Core.Bool.{Bool, true, false, cond, not, _&&_}
 use mathlib.Core.List.{List, [], _∷_}
-use mathlib.Core.Option.{Option, none, some}
-use lib.ListN.{length, getD, take}
+use mathlib.Core.Option.{none, some}
+use lib.ListN.{length, take}
 use lib.Dec.{leb, ltb}
-use borrow.Author.Tests.{ltb-true, ltb-false, leb-true}
-use Rattle.refusal.specs.declared.Verdict.the-variants.{Good}
-use Rattle.refusal.specs.Checked.{Checked, accepted, refused, _>>=_, require, verdict}
+use borrow.Author.Tests.{ltb-true, ltb-false}
+use Rattle.refusal.specs.Checked.{_>>=_, require}
 use Rattle.replay.specs.declared.Event.{Event}
-use Rattle.replay.specs.Log.{allUp, downAfter, downBy, checkEvent, checkEvents, noEvent}
+use Rattle.replay.specs.Log.{allUp, downAfter, downBy, checkEvent, checkEvents}
 use Rattle.replay.specs.Replays.{Lowest, lowered, lowestFrom, lowestBy}
-use Rattle.replay.proofs.Steps.{GoodEvent, good-event}
 
 -- how many records are usable after event t
 abbrev pub usableAfter : (value : (ℕ → Bool) → ℕ) (down : ℕ → Bool) (log : List Event) (t : ℕ) → ℕ

@@ -1,23 +1,23 @@
 -- A node goes down or comes up on the board. Assumes nothing.
-use Prim.Native.Nat.{ℕ, _+_, _-_, _≤_, _<_}
+use Prim.Native.Nat.{ℕ, _+_, _≤_, _<_}
 use native.Mathlib.Omega.{arith}
 use mathlib.Core.Path.{_≡_, refl, sym, _∙_, ap, subst}
 use mathlib.Core.Logic.{⊎-elim}
 use mathlib.Core.Bool.{Bool, true, false, cond}
 use mathlib.Core.List.{List}
-use lib.ListN.{length, getD, set, take, length-set, List·getD-eq-default}
+use lib.ListN.{length, getD, set, length-set, List·getD-eq-default}
 use lib.Dec.{ltb, eqb}
 use borrow.Author.Tests.{eq-eqb, ne-eqb}
 use Rattle.lists.specs.Lists.{count, upTo}
 use Rattle.lists.proofs.Arith.{le-or-lt}
 use Rattle.lists.proofs.CountUpTo.{count-upTo-congr, count-getD}
-use Rattle.worst.specs.Records.{among, begin, size, entriesOf, onNode, Index, few, raisedTo, loweredTo}
+use Rattle.worst.specs.Records.{begin, size, entriesOf, onNode, few, raisedTo, loweredTo}
 use Rattle.worst.specs.Searches.{Named}
 use Rattle.worst.specs.declared.Entries.{Entries}
 use Rattle.worst.proofs.Hits.{entries-inside, length-raised, length-lowered, getD-raised, getD-lowered}
 use Rattle.replay.specs.declared.Progress.{Progress}
 use Rattle.replay.specs.Board.{indexOf, downOf, hitsOf, onDown, valueBy, Counting, Raising, Restoring, Hit, Raised, Restored, Moved}
-use Rattle.replay.proofs.Parts.{entries-same, length-hits, length-index, index-mark, hits-mark, down-mark, index-before, down-before, getD-index}
+use Rattle.replay.proofs.Parts.{entries-same, length-hits, index-mark, hits-mark, down-mark, index-before, down-before, getD-index}
 use Rattle.replay.proofs.Down.{onDown-congr, onDown-change, onDown-le}
 
 -- usable records by the replicas and by the index

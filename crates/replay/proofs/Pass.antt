@@ -9,18 +9,17 @@ use mathlib.Core.List.{List, [], _∷_}
 use mathlib.Core.Option.{Option, none, some}
 use lib.ListN.{length, getD}
 use lib.Dec.{ltb, eqb}
-use borrow.Author.Tests.{lt-ltb, le-ltb, eq-eqb, ne-eqb, eqb-true, eqb-false}
-use Rattle.lists.specs.Lists.{All, tally, count, upTo}
+use borrow.Author.Tests.{lt-ltb, le-ltb, eqb-true, eqb-false}
+use Rattle.lists.specs.Lists.{All, tally, count}
 use Rattle.lists.proofs.Arith.{le-or-lt}
 use Rattle.lists.proofs.Alls.{all-imp, all-getD-default}
 use Rattle.lists.proofs.Counts.{count-congr-all}
 use Rattle.lists.proofs.CountUpTo.{count-upTo-congr, count-getD}
 use Rattle.refusal.specs.Checked.{Checked, accepted, refused, _>>=_}
 use Rattle.packing.specs.Failures.{usable, hits}
-use Rattle.worst.specs.Records.{onNode, IndexOf}
+use Rattle.worst.specs.Records.{IndexOf}
 use Rattle.replay.specs.declared.Event.{Event}
-use Rattle.replay.specs.declared.Replayed.{Replayed}
-use Rattle.replay.specs.declared.Replayed.the-variants.{Lowest as Lows, Quiet, Refused}
+use Rattle.replay.specs.declared.Replayed.the-variants.{Lowest as Lows}
 use Rattle.replay.specs.Log.{downAfter, checkEvent, checkEvents}
 use Rattle.replay.specs.Replays.{Lowest, lowered, lowestFrom}
 use Rattle.replay.specs.Answers.{lowestAnswer, replayAnswer}

@@ -3,9 +3,9 @@ use Prim.Native.Nat.{ℕ, suc, _≤_, _<_}
 use native.Mathlib.Omega.{arith}
 use mathlib.Core.Path.{_≡_, refl, sym, _∙_, ap, subst}
 use mathlib.Core.Bool.{Bool, true, false, cond, not, _&&_}
-use mathlib.Core.List.{List, [], _∷_}
-use lib.Dec.{T, leb, ltb, eqb}
-use borrow.Author.Tests.{ltb-true, ltb-false, lt-ltb, le-ltb, leb-true, leb-false, le-leb, lt-leb}
+use mathlib.Core.List.{List}
+use lib.Dec.{T, leb, ltb}
+use borrow.Author.Tests.{ltb-true, lt-ltb, le-ltb, leb-true, le-leb, lt-leb}
 use Rattle.refusal.specs.declared.Refusal.{Refusal}
 use Rattle.refusal.specs.declared.Refusal.the-variants.{EarlierEvent, BadEvent}
 use Rattle.refusal.specs.declared.Verdict.the-variants.{Good, Refused as NotGood}
@@ -15,7 +15,7 @@ use Rattle.replay.specs.declared.Progress.{Progress}
 use Rattle.replay.specs.declared.Replayed.{Replayed}
 use Rattle.replay.specs.declared.Replayed.the-variants.{Lowest, Quiet, Refused}
 use Rattle.replay.specs.Log.{downAfter, changes, checkEvent}
-use Rattle.replay.specs.Board.{loweredTo, onward, onePass, indexOf, downOf, valueBy, running, Counting, Standing, rest, Stepped, Moved}
+use Rattle.replay.specs.Board.{loweredTo, onePass, indexOf, downOf, valueBy, running, Counting, Standing, Stepped, Moved}
 
 good-accepted : (m : Checked Unit) → Good ≡ verdict m → m ≡ accepted tt
 good-accepted (accepted x) e = refl

@@ -4,12 +4,11 @@ use native.Mathlib.Omega.{arith}
 use native.Mathlib.Numerals.{add-one}
 use mathlib.Core.Path.{_≡_, refl, sym, _∙_, ap}
 use mathlib.Core.Bool.{Bool, true, false, cond}
-use mathlib.Core.List.{List, [], _∷_}
+use mathlib.Core.List.{List, _∷_}
 use lib.ListN.{length, getD, drop, drop-of-length-le}
 use lib.Seq.{drop-cons}
 use Rattle.replay.specs.declared.Event.{Event}
 use Rattle.replay.specs.declared.Progress.{Progress}
-use Rattle.replay.specs.declared.Replayed.{Replayed}
 use Rattle.replay.specs.Log.{noEvent}
 use Rattle.replay.specs.Board.{onePass, running, rest, Standing, Stepped}
 

@@ -1,6 +1,6 @@
 -- The answer of a replay as a value of the code's enum, and what each case says. Assumes nothing.
 use Prim.Native.Nat.{ℕ}
-use mathlib.Core.List.{List, [], _∷_}
+use mathlib.Core.List.{[], _∷_}
 use mathlib.Core.Option.{Option, none, some}
 use Rattle.refusal.specs.Refusals.{Outcome, result, refusalOutcome}
 use Rattle.refusal.specs.Checked.{Checked, accepted, refused}

@@ -2,7 +2,6 @@
 use Prim.Native.Nat.{ℕ}
 use mathlib.Core.Path.{_≡_, refl}
 use mathlib.Core.List.{List, []}
-use lib.ListN.{drop, replicate}
 use Rattle.refusal.specs.Checked.{Checked, accepted, refused}
 use Rattle.number.specs.declared.Reading.{Reading}
 use Rattle.number.specs.Numbers.{readNumber}

@@ -7,11 +7,10 @@ use borrow.Author.Tests.{le-leb, lt-leb}
 use Rattle.lists.proofs.Writing.{take-drop-rest}
 use Rattle.refusal.specs.declared.Refusal.{Refusal}
 use Rattle.refusal.specs.declared.Refusal.the-variants.{ShortOutput}
-use Rattle.refusal.specs.Checked.{accepted, refused}
+use Rattle.refusal.specs.Checked.{accepted}
 use Rattle.report.specs.Programs.{refusedLine}
 use Rattle.report.specs.Replies.{Replied}
 use Rattle.report.specs.Answers.{ReplyDone}
-use Rattle.report.specs.declared.Reply.{Reply}
 use Rattle.report.specs.declared.Reply.the-variants.{Written, Refused}
 use Rattle.text.specs.declared.TextRefusal.the-variants.{Arguments}
 use Rattle.text.specs.declared.GivenEnd.{GivenEnd}

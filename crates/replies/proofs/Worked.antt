@@ -1,6 +1,6 @@
 -- Replies by hand, by computation: lines, and numbers that can't be read. Assumes nothing.
 use mathlib.Core.Path.{_≡_, refl}
-use mathlib.Core.List.{List, [], _∷_, _++_}
+use mathlib.Core.List.{[], _∷_, _++_}
 use Rattle.refusal.specs.declared.Refusal.the-variants.{ShortOutput}
 use Rattle.refusal.specs.Checked.{accepted, refused}
 use Rattle.report.specs.Programs.{digits, decimal, rest, refusedWord}

@@ -1,17 +1,15 @@
 -- What `join` writes, from the answer of the call, and by how many files are named. Assumes nothing.
 use Prim.Native.Nat.{ℕ, _≤_, _<_}
-use native.Mathlib.Omega.{arith}
-use mathlib.Core.Path.{_≡_, refl, sym, _∙_}
+use mathlib.Core.Path.{_≡_, _∙_}
 use mathlib.Core.List.{List, [], _∷_}
 use lib.ListN.{length}
 use borrow.Author.Tests.{lt-ltb, le-ltb, eq-eqb, ne-eqb}
-use Rattle.refusal.specs.declared.Refusal.{Refusal}
 use Rattle.refusal.specs.Checked.{Checked, accepted, refused}
 use Rattle.pack.specs.Pack.{Pack, bytesOfPack}
 use Rattle.join.specs.Join.{join}
-use Rattle.join.specs.Answers.{joined, joinedOutput, JoinDone}
+use Rattle.join.specs.Answers.{JoinDone}
 use Rattle.join.specs.declared.Joined.{Joined}
-use Rattle.join.specs.declared.Joined.the-variants.{Written, Refused}
+use Rattle.join.specs.declared.Joined.the-variants.{Written}
 use Rattle.report.specs.Replies.{Replied}
 use Rattle.report.proofs.Replies.{replied-of}
 use Rattle.text.specs.declared.TextRefusal.the-variants.{Arguments}

@@ -1,10 +1,9 @@
 -- Bytes put one after another into a lent slice. Assumes nothing.
 use Prim.Native.Nat.{ℕ, _+_, _*_, _≤_}
 use native.Mathlib.Omega.{arith}
-use mathlib.Core.Path.{_≡_, refl, sym, _∙_, ap}
+use mathlib.Core.Path.{_≡_, refl, sym, _∙_}
 use mathlib.Core.List.{List, [], _++_}
 use lib.ListN.{length, length-append}
-use lib.Seq.{sets}
 use Rattle.lists.proofs.Stores.{sets-append, sets-start}
 use Rattle.report.specs.Programs.{decimal, rest}
 use Rattle.report.specs.Replies.{Replied}

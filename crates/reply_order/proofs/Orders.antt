@@ -3,9 +3,9 @@ use Prim.Native.Nat.{ℕ}
 use mathlib.Core.Path.{_≡_, sym, _∙_, ap}
 use mathlib.Core.List.{List}
 use Rattle.refusal.specs.declared.Refusal.{Refusal}
-use Rattle.refusal.specs.Checked.{accepted, mapAccepted}
+use Rattle.refusal.specs.Checked.{mapAccepted}
 use Rattle.refusal.proofs.Checked.{accepted-injective, refused-not-accepted}
-use Rattle.placement.specs.Placement.{Placement, readPlacement, checkPlacement}
+use Rattle.placement.specs.Placement.{readPlacement, checkPlacement}
 use Rattle.placement.specs.Answers.{placementChecked}
 use Rattle.placement.specs.declared.Order.{Order}
 use Rattle.placement.specs.declared.PlacementHead.{PlacementHead}

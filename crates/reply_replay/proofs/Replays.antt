@@ -1,12 +1,12 @@
 -- The line of `replay`, from what was read of the log and what the calls answer. Assumes nothing.
 use Prim.Native.Nat.{ℕ, _≤_}
 use native.Mathlib.Omega.{arith}
-use mathlib.Core.Path.{_≡_, refl, sym, _∙_, ap}
+use mathlib.Core.Path.{_≡_, refl, ap}
 use mathlib.Core.List.{List}
 use lib.ListN.{take}
 use borrow.Author.Tests.{eq-eqb, ne-eqb}
 use Rattle.refusal.specs.declared.Refusal.{Refusal}
-use Rattle.refusal.specs.Checked.{Checked, accepted, refused, mapAccepted}
+use Rattle.refusal.specs.Checked.{Checked, accepted, refused}
 use Rattle.placement.specs.Placement.{Placement, readPlacement, checkPlacement}
 use Rattle.placement.specs.Answers.{placementChecked}
 use Rattle.placement.specs.declared.PlacementHead.{PlacementHead}

@@ -1,15 +1,14 @@
 -- The line of `rounds`, from the answer of the call. Assumes nothing.
 use Prim.Native.Nat.{ℕ}
-use native.Mathlib.Omega.{arith}
-use mathlib.Core.Path.{_≡_, refl, sym, _∙_, ap}
+use mathlib.Core.Path.{_≡_, sym, _∙_}
 use mathlib.Core.List.{List, []}
 use Rattle.refusal.specs.declared.Refusal.{Refusal}
-use Rattle.refusal.specs.Checked.{Checked, accepted, refused, mapAccepted}
+use Rattle.refusal.specs.Checked.{Checked, accepted, refused}
 use Rattle.rounds.specs.Rounds.{checkRounds}
 use Rattle.rounds.specs.Answers.{roundsAnswer}
 use Rattle.rounds.specs.declared.RoundsAnswer.{RoundsAnswer}
 use Rattle.rounds.specs.declared.RoundsAnswer.the-variants.{Usable, Refused}
-use Rattle.report.specs.Programs.{refusedLine, orRefusedLine}
+use Rattle.report.specs.Programs.{refusedLine}
 use Rattle.replies.specs.Lines.{numbersLine}
 use Rattle.call_replies.specs.Rounds.{roundsText}
 

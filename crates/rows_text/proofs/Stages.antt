@@ -1,6 +1,6 @@
 -- A draft of bare rows after each line: nothing is read; n, r and perhaps the nodes out of service are; or `order` and perhaps rows are.
 -- Every line that is taken keeps it so. Assumes nothing.
-use Prim.Native.Nat.{ℕ, suc, _+_, _-_, _≤_, _<_}
+use Prim.Native.Nat.{ℕ, suc, _+_, _≤_, _<_}
 use native.Mathlib.Omega.{arith}
 use mathlib.Core.Path.{_≡_, refl, sym, _∙_, ap, subst}
 use mathlib.Core.Logic.{_⊎_, inl, inr}

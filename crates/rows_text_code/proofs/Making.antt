@@ -1,7 +1,7 @@
 -- The bytes of the bare rows and what their check says of them. Assumes nothing.
-use Prim.Native.Nat.{ℕ, _+_, _-_, _/_, _≤_, _<_}
+use Prim.Native.Nat.{ℕ, _+_, _-_, _/_, _<_}
 use native.Mathlib.Omega.{arith}
-use mathlib.Core.Path.{_≡_, refl, sym, _∙_, ap}
+use mathlib.Core.Path.{_≡_, refl, _∙_, ap}
 use mathlib.Core.List.{List, _++_}
 use lib.ListN.{length, take, drop, getD, length-append}
 use lib.Seq.{length-take-le, take-at}
@@ -23,7 +23,7 @@ use Rattle.table.specs.declared.Packed.{Packed}
 use Rattle.table.specs.declared.Packed.the-variants.{Bytes, Bad}
 use Rattle.table.specs.Told.{Told, good, bad, _>>=_}
 use Rattle.table.specs.Reading.{Draft, draftBytes, lineAt}
-use Rattle.table.specs.Progress.{Kept, Room, Grown, DraftFits, PackedIn, draftOf, packMost}
+use Rattle.table.specs.Progress.{Room, Grown, DraftFits, PackedIn, draftOf}
 use Rattle.table_code.proofs.Making.{rows-room}
 use Rattle.rows_text.specs.Reading.{readText}
 use Rattle.rows_text.specs.Making.{rowsIf, madeAs, rowsDraft, rowsOf}

@@ -1,21 +1,19 @@
 -- Reading what was printed, line by line. Assumes nothing.
-use Prim.Native.Nat.{ℕ, zero, suc, _+_, _*_, _-_, _≤_, _<_}
+use Prim.Native.Nat.{ℕ, suc, _+_, _≤_}
 use native.Mathlib.Omega.{arith}
 use mathlib.Core.Path.{_≡_, refl, sym, _∙_, ap}
-use mathlib.Core.Bool.{Bool, true, false, cond}
 use mathlib.Core.List.{List, [], _∷_, _++_, append-assoc}
-use mathlib.Core.Option.{some}
 use lib.ListN.{length}
 use Rattle.lists.specs.Lists.{All}
 use Rattle.lists.proofs.Alls.{all-append}
-use Rattle.table.specs.Told.{Told, good, bad, _>>=_}
-use Rattle.table.specs.Lines.{linesOf, begins, uncommented, readNumbers}
+use Rattle.table.specs.Told.{_>>=_}
+use Rattle.table.specs.Lines.{linesOf, begins, readNumbers}
 use Rattle.table.specs.Reading.{Draft}
 use Rattle.table.proofs.Lines.{Inside, lines-line, before-all}
 use Rattle.rows_text.specs.declared.RowsWord.{RowsWord}
 use Rattle.rows_text.specs.declared.RowsWord.the-variants.{Rows, Out, Order, Plain}
 use Rattle.rows_text.specs.Words.{letters, wordOf, numbersAfter}
-use Rattle.rows_text.specs.Reading.{addNumbers, addRead, addContent, addLine, readLines}
+use Rattle.rows_text.specs.Reading.{addNumbers, addContent, addLine, readLines}
 use Rattle.rows_text_print.specs.Printing.{textLine}
 use Rattle.table.proofs.Numbers.{Short, spaced, rest-spaced, spaced-inside, read-spaced}
 

@@ -1,20 +1,17 @@
 -- Reading what was printed gives the bare rows back. Assumes nothing.
 use Prim.Native.Nat.{ℕ, suc, _+_, _≤_, _<_}
 use native.Mathlib.Omega.{arith}
-use mathlib.Core.Path.{_≡_, refl, sym, _∙_, ap, subst}
+use mathlib.Core.Path.{_≡_, refl, ap, subst}
 use mathlib.Core.List.{List, [], _∷_, _++_, map, flatten, append-assoc, append-nil}
 use lib.ListN.{length}
 use borrow.Author.Tests.{lt-ltb, le-leb}
 use Rattle.lists.specs.Lists.{All}
-use Rattle.refusal.specs.Checked.{accepted}
 use Rattle.refusal.proofs.Checked.{mapAccepted-accepted}
-use Rattle.number.specs.Numbers.{formsOf}
 use Rattle.layers.specs.Layers.{Located, BaseLimits, listNumbers}
-use Rattle.placement.specs.Placement.{OrderLimits}
 use Rattle.certify.specs.Bare.{Bare, GoodBare, bareNumbers, bareBytes, readBare, checkBare}
 use Rattle.certify.proofs.Accepted.{written-accepted}
 use Rattle.report.specs.Programs.{rest}
-use Rattle.table.specs.Told.{Told, good, bad, _>>=_, unless}
+use Rattle.table.specs.Told.{Told, good, _>>=_}
 use Rattle.table.specs.Lines.{linesOf, begins, readNumbers, before}
 use Rattle.table.specs.Reading.{Draft, addOut, addBlock, draftBytes}
 use Rattle.table.proofs.Numbers.{Short}
@@ -22,7 +19,7 @@ use Rattle.table.proofs.Drafts.{LineReads, draft, head-added, read-out, read-bl
 use Rattle.rows_text.specs.declared.RowsWord.the-variants.{Rows, Out, Order, Plain}
 use Rattle.rows_text.specs.Words.{wordOf}
 use Rattle.rows_text.specs.Reading.{startDraft, orderTaken, addOrder, addNumbers, addContent, addLine, readLines, readText}
-use Rattle.rows_text.specs.Making.{rowsIf, rowsDraft, rowsOf}
+use Rattle.rows_text.specs.Making.{rowsDraft, rowsOf}
 use Rattle.table.specs.Printing.{outText}
 use Rattle.rows_text_print.specs.Printing.{textLine, rowsText}
 use Rattle.rows_text_print.proofs.Printed.{read-line}

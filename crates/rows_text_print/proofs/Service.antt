@@ -1,8 +1,8 @@
 -- Where a row stands, some node is in service. Assumes nothing.
-use Prim.Native.Nat.{ℕ, zero, suc, _+_, _≤_, _<_}
+use Prim.Native.Nat.{ℕ, suc, _+_, _≤_, _<_}
 use native.Mathlib.Omega.{arith}
-use mathlib.Core.Path.{_≡_, refl, sym}
-use mathlib.Core.Bool.{Bool, true, false, _&&_, _||_}
+use mathlib.Core.Path.{_≡_, refl}
+use mathlib.Core.Bool.{Bool, true, false, _||_}
 use mathlib.Core.List.{List, [], _∷_}
 use lib.ListN.{length}
 use lib.Dec.{T, leb, ltb, eqb}
@@ -10,7 +10,7 @@ use borrow.Author.Tests.{leb-true, ltb-true, ltb-false, eqb-false, eq-eqb}
 use Rattle.lists.specs.Lists.{All, every}
 use Rattle.lists.proofs.Tests.{true-T, and-left, and-right}
 use Rattle.packing.specs.Rows.{Row, ascending, inOrder, member}
-use Rattle.layers.specs.Layers.{Names, InService}
+use Rattle.layers.specs.Layers.{InService}
 use Rattle.layers.proofs.Listing.{dark-below}
 
 -- nodes from `lo` on that ascend below n are n - lo at most

@@ -1,7 +1,6 @@
 -- Small files of bare rows by hand, by computation. Assumes nothing.
-use Prim.Native.Nat.{ℕ}
 use mathlib.Core.Path.{_≡_, refl}
-use mathlib.Core.List.{List, [], _∷_, flatten}
+use mathlib.Core.List.{[], _∷_, flatten}
 use Rattle.lists.specs.Lists.{every, any, firstWhere}
 use Rattle.number.specs.Numbers.{readGroups, readNumber, readWithin}
 use Rattle.packing.specs.Rows.{ascending, rowsAt, member, firstBad}

@@ -1,7 +1,7 @@
 -- The text of bare rows, from what their check hands on. Assumes nothing.
 use Prim.Native.Nat.{ℕ, _+_, _*_, _-_, _≤_}
 use native.Mathlib.Omega.{arith}
-use mathlib.Core.Path.{_≡_, refl, _∙_, ap}
+use mathlib.Core.Path.{_≡_, _∙_, ap}
 use mathlib.Core.List.{List, [], _∷_, _++_, map, flatten}
 use lib.ListN.{length, take, drop, length-append}
 use Rattle.refusal.specs.declared.Refusal.{Refusal}
@@ -14,7 +14,7 @@ use Rattle.layers.proofs.Listing.{dark-count}
 use Rattle.placement.specs.declared.Order.{Order}
 use Rattle.certify.specs.Answers.{bareRead}
 use Rattle.certify.specs.Asked.{BareHeld, heldBare}
-use Rattle.certify.specs.Bare.{readBare, checkBare}
+use Rattle.certify.specs.Bare.{readBare}
 use Rattle.certify.specs.declared.BareRead.{BareRead}
 use Rattle.certify.proofs.Answered.{BareFound, bare-refused}
 use Rattle.certify.proofs.Writing.{rows-asked, found-is}

@@ -17,8 +17,8 @@ use Rattle.table.specs.Told.{unreadable}
 use Rattle.table.specs.Lines.{begins, readNumbers, before}
 use Rattle.rows_text.specs.Words.{letters, wordOf, numbersAfter}
 use Rattle.table.specs.Reading.{Draft, addTable, addOut, addBlock}
-use Rattle.rows_text.specs.Reading.{addOrder, addNumbers, addRead, addContent, addLine}
-use Rattle.table.specs.Progress.{Kept, Finds, Room, Grown, Adds, NumbersIn, draftOf, foundIn}
+use Rattle.rows_text.specs.Reading.{addOrder, addNumbers, addContent, addLine}
+use Rattle.table.specs.Progress.{Kept, Finds, Grown, Adds, NumbersIn, draftOf, foundIn}
 use Rattle.table.proofs.Lines.{begins-length}
 use Rattle.table_reader.proofs.Found.{uncommented-is, draft-same, found-finds, found-is, none-found, found-length}
 

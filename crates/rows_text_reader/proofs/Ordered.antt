@@ -1,22 +1,21 @@
 -- What the line of s and k adds, where its numbers stand after those of the head so far. Assumes nothing.
-use Prim.Native.Nat.{ℕ, zero, suc, _+_, _*_, _-_, _≤_, _<_}
+use Prim.Native.Nat.{ℕ, _+_, _-_, _≤_, _<_}
 use native.Mathlib.Omega.{arith}
 use native.Mathlib.Numerals.{add-one}
-use mathlib.Core.Path.{_≡_, refl, sym, _∙_, ap}
-use mathlib.Core.Bool.{Bool, true, false, _&&_}
+use mathlib.Core.Path.{_≡_, refl, _∙_}
+use mathlib.Core.Bool.{true, false, _&&_}
 use mathlib.Core.List.{List, [], _∷_, _++_, append-assoc}
 use lib.ListN.{length, take, drop, getD, set}
 use lib.Dec.{leb, ltb}
 use lib.Seq.{take-suc-set, take-add, getD-take, getD-set-same}
 use borrow.Author.Tests.{eq-eqb, ne-eqb, lt-ltb, le-ltb, lt-leb, le-leb, ltb-true, leb-true}
-use Rattle.lists.specs.Lists.{All}
 use Rattle.lists.proofs.Alls.{all-append}
 use Rattle.lists.proofs.Tests.{T-true, true-T, and-left, and-right}
 use Rattle.number.specs.Numbers.{largestNumber}
 use Rattle.table.specs.declared.Progress.{Progress}
 use Rattle.table.specs.declared.Added.the-variants.{To, Bad}
 use Rattle.table.specs.Told.{unreadable, outside}
-use Rattle.table.specs.Progress.{Kept, Finds, Adds, foundIn}
+use Rattle.table.specs.Progress.{Finds, Adds, foundIn}
 use Rattle.table_steps.proofs.Head.{take-two, room-after, found-length, head-length}
 use Rattle.rows_text.specs.Reading.{orderTaken, addOrder}
 

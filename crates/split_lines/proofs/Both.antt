@@ -1,7 +1,7 @@
 -- A line by records, by whole periods of copies and by fewer copies beside them: what one part leaves for the next. Assumes nothing.
-use Prim.Native.Nat.{ℕ, _+_, _*_, _-_, _^_, _≤_, _<_, min}
+use Prim.Native.Nat.{ℕ, _+_, _*_, _-_, _≤_, _<_, min}
 use native.Mathlib.Omega.{arith}
-use mathlib.Core.Path.{_≡_, sym, ap, ap₂, _∙_}
+use mathlib.Core.Path.{_≡_, sym, ap, _∙_}
 use mathlib.Core.List.{List, map}
 use lib.ListN.{length, getD, take, drop, length-drop}
 use lib.Seq.{sets, getD-take, getD-drop, length-take-le}

@@ -9,13 +9,13 @@ use lib.ListN.{length, getD, set, length-set}
 use lib.Seq.{sets}
 use borrow.Author.Tests.{ltb-false}
 use Rattle.lists.specs.Lists.{count, upTo}
-use Rattle.lists.proofs.UpTo.{map-upTo-congr, length-map-upTo}
+use Rattle.lists.proofs.UpTo.{map-upTo-congr}
 use Rattle.lists.proofs.Stores.{storedTo, stored-none, stored-next, length-stored}
 use Rattle.split.specs.declared.Steps.{Steps}
 use Rattle.split.specs.Splits.{noSplit}
 use Rattle.split.specs.Table.{StepLimits, byPeriods, copiesUpTo, lineEntry}
 use Rattle.split.specs.Working.{part, LineBelow, Lowerable, lowered, climbs, ByPeriods}
-use Rattle.split.proofs.Parts.{part-sets-before, part-stored, getD-next, getD-stored, sets-sets, stored-same, stored-tail}
+use Rattle.split.proofs.Parts.{getD-next, getD-stored, stored-same, stored-tail}
 use Rattle.split.proofs.Passes.{copies-next, copies-past, copies-all-past, copies-all-steep}
 use Rattle.split.proofs.Stepped.{stepped-le-mark}
 use Rattle.split_lines.proofs.Raising.{whole-pos}

@@ -1,18 +1,16 @@
 -- A line of the table, written entry by entry from the line below it: the losses by records, which both ways of raising a
 -- line keep, and the losses by copies. Assumes nothing.
 use Prim.Native.Nat.{ℕ, _+_, _*_, _-_, _≤_, _<_, min}
-use native.Mathlib.Nat.{mul-pos, mul-le-mul, eq-or-lt-of-le}
+use native.Mathlib.Nat.{mul-pos, mul-le-mul}
 use native.Mathlib.Omega.{arith}
-use mathlib.Core.Path.{_≡_, refl, sym, ap, ap₂, _∙_}
-use mathlib.Core.Logic.{_⊎_, inl, inr}
+use mathlib.Core.Path.{_≡_, refl, sym, ap, _∙_}
 use mathlib.Core.List.{List}
-use lib.ListN.{length, getD, set, replicate, length-set}
-use lib.Seq.{sets, getD-set-same, getD-set-other}
-use Rattle.lists.proofs.Parts.{getD-zeros}
+use lib.ListN.{length, getD, set, length-set}
+use lib.Seq.{sets}
 use Rattle.lists.proofs.UpTo.{map-upTo-congr}
 use Rattle.split.specs.declared.Steps.{Steps}
 use Rattle.split.specs.Splits.{noSplit}
-use Rattle.split.specs.Table.{StepLimits, Rising, stepped, byPeriods, lineEntry}
+use Rattle.split.specs.Table.{StepLimits, stepped, lineEntry}
 use Rattle.split.specs.Working.{part, LineBelow}
 use Rattle.split.proofs.Stepped.{stepped-zero, stepped-le-mark, stepped-dear, record-step}
 use Rattle.split.proofs.LineSteps.{lineEntry-records}

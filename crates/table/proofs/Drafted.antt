@@ -1,6 +1,6 @@
 -- What the lines of a text have made when its end is reached: a pack of which all is right but that a block may name a node out of
 -- service or a layer may be crowded. Assumes nothing.
-use Prim.Native.Nat.{ℕ, suc, _-_}
+use Prim.Native.Nat.{ℕ, suc}
 use native.Mathlib.Omega.{arith}
 use mathlib.Core.Path.{_≡_, refl, sym, _∙_, ap, subst}
 use mathlib.Core.Logic.{_⊎_, inl, inr}

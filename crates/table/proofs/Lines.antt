@@ -2,13 +2,13 @@
 use Prim.Native.Nat.{ℕ, _≤_}
 use native.Mathlib.Omega.{arith}
 use mathlib.Core.Path.{_≡_, refl, ap}
-use mathlib.Core.Bool.{Bool, true, false, cond}
+use mathlib.Core.Bool.{true, false}
 use mathlib.Core.List.{List, [], _∷_, _++_}
 use lib.ListN.{length}
 use lib.Dec.{eqb}
 use Rattle.lists.specs.Lists.{All}
 use Rattle.lists.proofs.Tests.{T-true, true-T, and-right}
-use Rattle.table.specs.Lines.{startLine, linesOf, before, begins}
+use Rattle.table.specs.Lines.{linesOf, before, begins}
 
 -- a byte that ends neither a line nor what is read of it
 abbrev pub Inside : ℕ → Type 0

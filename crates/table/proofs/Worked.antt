@@ -1,16 +1,14 @@
 -- Small tables by hand, by computation. Assumes nothing.
-use Prim.Native.Nat.{ℕ}
 use mathlib.Core.Path.{_≡_, refl}
-use mathlib.Core.List.{List, [], _∷_, flatten}
+use mathlib.Core.List.{[], _∷_, flatten}
 use Rattle.lists.specs.Lists.{count, every, any, firstWhere, total}
 use Rattle.number.specs.Numbers.{groups, numberBytes, readGroups, readNumber, readWithin}
 use Rattle.packing.specs.Rows.{ascending, rowsAt, member, holds, together, subsets, crowded, firstCrowded, firstBad}
-use Rattle.layers.specs.Layers.{headNumbers, names, firstNaming, readKind, readNodes, readList, readDark, readLayers, layersAt, firstCrowdedOf, readBase, checkLength, checkEnd, checkAscending, checkService, checkPackings, checkRows}
+use Rattle.layers.specs.Layers.{names, firstNaming, readKind, readNodes, readList, readDark, readLayers, layersAt, firstCrowdedOf, readBase, checkLength, checkEnd, checkAscending, checkService, checkPackings, checkRows}
 use Rattle.pack.specs.Pack.{readPack}
-use Rattle.report.specs.Programs.{digits, decimal, rest}
 use Rattle.table.specs.Told.{good, bad}
 use Rattle.table.specs.Lines.{linesOf, before, begins, wordOf, readNumbers}
-use Rattle.table.specs.Reading.{headTaken, addTable, addOut, addLayer, addBlock, addNumbers, addContent, addLine, readLines, readText, draftBytes, lineAt, packDraft, packOf, packInput, packReply}
+use Rattle.table.specs.Reading.{headTaken, addTable, addOut, addLayer, addBlock, addNumbers, addContent, addLine, readLines, readText, draftBytes, lineAt, packDraft, packOf}
 
 -- a table of two layers, with a comment, a blank line and no newline at its end; the same with node 1 out of service
 pub packed : (packOf (116 ∷ 97 ∷ 98 ∷ 108 ∷ 101 ∷ 32 ∷ 51 ∷ 32 ∷ 50 ∷ 10 ∷ 109 ∷ 117 ∷ 32 ∷ 49 ∷ 32 ∷ 35 ∷ 32 ∷ 120 ∷ 61 ∷ 48 ∷ 10 ∷ 10 ∷ 48 ∷ 32 ∷ 50 ∷ 10 ∷ 109 ∷ 117 ∷ 32 ∷ 50 ∷ [])

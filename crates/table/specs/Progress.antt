@@ -11,7 +11,6 @@ use Rattle.refusal.specs.Checked.{Checked, accepted, refused}
 use Rattle.number.specs.Numbers.{largestNumber}
 use Rattle.layers.specs.Layers.{Located}
 use Rattle.pack.specs.Pack.{Pack}
-use Rattle.table.specs.declared.Fault.{Fault}
 use Rattle.table.specs.declared.LineRead.{LineRead}
 use Rattle.table.specs.declared.LineRead.the-variants.{Numbers, Unreadable}
 use Rattle.table.specs.declared.Progress.{Progress}

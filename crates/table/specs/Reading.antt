@@ -1,11 +1,10 @@
 -- A block table as text becomes a pack. Assumes nothing.
-use Prim.Native.Nat.{ℕ, zero, suc, _+_, _*_, _-_, _/_}
-use mathlib.Core.Bool.{Bool, cond, _&&_}
+use Prim.Native.Nat.{ℕ, suc, _+_, _-_, _/_}
+use mathlib.Core.Bool.{Bool, _&&_}
 use mathlib.Core.List.{List, [], _∷_, _++_}
 use mathlib.Core.Option.{Option, none, some}
 use lib.ListN.{length, getD, set}
 use lib.Dec.{leb, ltb, eqb}
-use Rattle.refusal.specs.declared.Refusal.{Refusal}
 use Rattle.refusal.specs.Refusals.{numberOf, placeOf}
 use Rattle.refusal.specs.Checked.{Checked, accepted, refused}
 use Rattle.number.specs.Numbers.{formsOf}

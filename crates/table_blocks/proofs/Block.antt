@@ -1,11 +1,11 @@
 -- What a block's line adds. Assumes nothing.
-use Prim.Native.Nat.{ℕ, zero, suc, _+_, _*_, _-_, _≤_, _<_}
+use Prim.Native.Nat.{ℕ, suc, _+_, _-_, _≤_, _<_}
 use native.Mathlib.Omega.{arith}
 use native.Mathlib.Numerals.{add-one}
-use mathlib.Core.Path.{_≡_, refl, sym, _∙_, ap}
+use mathlib.Core.Path.{_≡_, refl, _∙_, ap}
 use mathlib.Core.Bool.{true, false}
-use mathlib.Core.List.{List, [], _∷_, _++_}
-use lib.ListN.{length, take, drop, getD, set, length-append}
+use mathlib.Core.List.{List, _++_}
+use lib.ListN.{length, take, drop, getD, set}
 use lib.Seq.{length-take-le, take-suc-set, take-set-lt, take-append-add, getD-take, getD-set-same, take-append-seam}
 use borrow.Author.Tests.{eq-eqb, ne-eqb, lt-ltb, le-ltb}
 use Rattle.lists.specs.Lists.{All, overStart}
@@ -18,7 +18,7 @@ use Rattle.table.specs.declared.Added.{Added}
 use Rattle.table.specs.declared.Added.the-variants.{To, Bad}
 use Rattle.table.specs.Told.{unreadable, outside, badBlock}
 use Rattle.table.specs.Reading.{addBlock}
-use Rattle.table.specs.Progress.{Kept, Finds, Room, Grown, draftOf, foundIn}
+use Rattle.table.specs.Progress.{Finds, Room, Grown, draftOf, foundIn}
 use Rattle.table_steps.proofs.Ordering.{order-below}
 use Rattle.table_steps.proofs.Head.{found-length, head-length, room-after, all-set}
 

@@ -1,8 +1,8 @@
 -- The pack's bytes and what its check says of them. Assumes nothing.
-use Prim.Native.Nat.{ℕ, zero, suc, _+_, _*_, _-_, _/_, _≤_, _<_}
+use Prim.Native.Nat.{ℕ, _+_, _*_, _-_, _/_, _≤_, _<_}
 use native.Mathlib.Omega.{arith}
-use mathlib.Core.Path.{_≡_, refl, sym, _∙_, ap}
-use mathlib.Core.List.{List, [], _∷_, _++_, flatten, append-assoc}
+use mathlib.Core.Path.{_≡_, refl, _∙_, ap}
+use mathlib.Core.List.{List, [], _∷_, _++_, flatten}
 use lib.ListN.{length, take, drop, getD, length-append}
 use lib.Seq.{length-take-le, take-at}
 use Rattle.lists.specs.Lists.{All, overStart}
@@ -25,7 +25,7 @@ use Rattle.table.specs.declared.Packed.{Packed}
 use Rattle.table.specs.declared.Packed.the-variants.{Bytes, Bad}
 use Rattle.table.specs.Told.{Told, good, bad, _>>=_}
 use Rattle.table.specs.Reading.{Draft, readText, draftBytes, lineAt, packIf, packDraft, packOf}
-use Rattle.table.specs.Progress.{Kept, Room, Grown, DraftFits, PackedIn, draftOf, packedAs, packMost}
+use Rattle.table.specs.Progress.{Room, Grown, DraftFits, PackedIn, draftOf, packedAs, packMost}
 use Rattle.table.proofs.Made.{some-replica}
 
 -- numbers take at most four bytes each

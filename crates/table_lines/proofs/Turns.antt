@@ -3,10 +3,10 @@ use Prim.Native.Nat.{ℕ, zero, suc, _+_, _*_, _-_, _≤_, _<_}
 use native.Mathlib.Omega.{arith}
 use native.Mathlib.Numerals.{add-one}
 use native.Mathlib.Nat.{le-refl}
-use mathlib.Core.Path.{_≡_, refl, sym, _∙_, ap}
+use mathlib.Core.Path.{_≡_, refl, _∙_}
 use mathlib.Core.Bool.{true, false}
-use mathlib.Core.List.{List, [], _∷_, _++_}
-use mathlib.Core.Option.{none, some}
+use mathlib.Core.List.{List, []}
+use mathlib.Core.Option.{some}
 use lib.ListN.{length, take, drop, getD, set, drop-of-length-le, length-set}
 use lib.Seq.{drop-cons, length-take-le, take-suc-set}
 use borrow.Author.Tests.{lt-ltb, le-ltb}

@@ -1,17 +1,16 @@
 -- The text of a pack, from what its check hands on. Assumes nothing.
-use Prim.Native.Nat.{ℕ, zero, suc, _+_, _*_, _-_, _≤_, _<_}
+use Prim.Native.Nat.{ℕ, _+_, _*_, _-_, _≤_}
 use native.Mathlib.Omega.{arith}
 use mathlib.Core.Path.{_≡_, refl, sym, _∙_, ap}
 use mathlib.Core.List.{List, [], _∷_, _++_, map, flatten, append-nil}
-use lib.ListN.{length, take, drop, replicate, length-append, length-map, length-drop}
-use lib.Seq.{sets, take-at, take-append-le, take-take, take-length}
-use Rattle.lists.specs.Lists.{All, overStart}
+use lib.ListN.{length, take, drop, replicate, length-append, length-map}
+use lib.Seq.{take-at, take-take}
 use Rattle.lists.proofs.Alls.{all-imp}
 use Rattle.lists.proofs.Writing.{take-drop-rest}
 use Rattle.refusal.specs.declared.Refusal.{Refusal}
 use Rattle.refusal.specs.Checked.{Checked, accepted, refused, mapAccepted}
 use Rattle.packing.specs.Rows.{Row}
-use Rattle.layers.specs.Layers.{Layer, Located, allRows, headsOf, sizes, layersAt}
+use Rattle.layers.specs.Layers.{Located, allRows, headsOf, sizes, layersAt}
 use Rattle.layers.specs.Answers.{fiveHeads, darkOf, darkList, noHead}
 use Rattle.layers.specs.declared.LayerHead.{LayerHead}
 use Rattle.layers.specs.declared.Dark.{Dark}
@@ -25,7 +24,7 @@ use Rattle.pack.specs.declared.PackHead.{PackHead}
 use Rattle.pack.specs.declared.PackAnswer.the-variants.{Accepted, Refused}
 use Rattle.pack.specs.declared.PackCheck.{PackCheck}
 use Rattle.pack.proofs.Accepted.{read-of-pack, blocks-stand}
-use Rattle.report.specs.Programs.{rest, refusedLine, orRefusedLine}
+use Rattle.report.specs.Programs.{refusedLine, orRefusedLine}
 use Rattle.report.specs.Replies.{Replied}
 use Rattle.report_lines.specs.Put.{Put}
 use Rattle.report_lines.proofs.Lengths.{rest-most}

@@ -15,7 +15,7 @@ use Rattle.table.specs.declared.Added.{Added}
 use Rattle.table.specs.declared.Added.the-variants.{To, Bad}
 use Rattle.table.specs.Told.{unreadable}
 use Rattle.table.specs.Lines.{begins, letters, wordOf, numbersAfter, readNumbers, before}
-use Rattle.table.specs.Reading.{Draft, addTable, addOut, addLayer, addBlock, addNumbers, addRead, addContent, addLine}
+use Rattle.table.specs.Reading.{Draft, addTable, addOut, addLayer, addBlock, addNumbers, addContent, addLine}
 use Rattle.table.specs.Progress.{Kept, Finds, Grown, Adds, NumbersIn, draftOf, foundIn}
 use Rattle.table.proofs.Lines.{begins-length}
 use Rattle.table_reader.proofs.Found.{uncommented-is, draft-same, found-finds, found-is, none-found, found-length}

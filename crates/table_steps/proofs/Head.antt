@@ -1,11 +1,11 @@
 -- What the lines of the head add, where their numbers stand after those of the head so far. Assumes nothing.
-use Prim.Native.Nat.{ℕ, zero, suc, _+_, _*_, _-_, _≤_, _<_}
+use Prim.Native.Nat.{ℕ, zero, suc, _+_, _-_, _≤_, _<_}
 use native.Mathlib.Omega.{arith}
 use native.Mathlib.Numerals.{add-one}
-use mathlib.Core.Path.{_≡_, refl, sym, _∙_, ap}
+use mathlib.Core.Path.{_≡_, refl, _∙_}
 use mathlib.Core.Bool.{true, false}
 use mathlib.Core.List.{List, [], _∷_, _++_, append-assoc}
-use lib.ListN.{length, take, drop, getD, set, length-drop, length-set, length-append}
+use lib.ListN.{length, take, drop, getD, set, length-drop}
 use lib.Seq.{drop-cons, length-take-le, take-suc-set, take-add, take-set-lt, drop-set-lt, getD-take, getD-set-same}
 use borrow.Author.Tests.{eq-eqb, ne-eqb, lt-ltb, le-ltb, le-leb, lt-leb}
 use Rattle.lists.specs.Lists.{All}
@@ -16,7 +16,7 @@ use Rattle.table.specs.declared.Progress.{Progress}
 use Rattle.table.specs.declared.Added.the-variants.{To, Bad}
 use Rattle.table.specs.Told.{unreadable, outside}
 use Rattle.table.specs.Reading.{headTaken, addTable, addOut, addLayer}
-use Rattle.table.specs.Progress.{Kept, Finds, Adds, foundIn}
+use Rattle.table.specs.Progress.{Finds, Adds, foundIn}
 use Rattle.table_steps.proofs.Ordering.{order-below, taken-limits}
 
 -- one and two numbers from a place on

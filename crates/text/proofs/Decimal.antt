@@ -3,19 +3,17 @@ use Prim.Native.Nat.{ℕ, zero, suc, _+_, _*_, _-_, _≤_, _<_}
 use native.Mathlib.Omega.{arith}
 use native.Mathlib.Numerals.{add-one}
 use native.Mathlib.Nat.{le-refl}
-use mathlib.Core.Path.{_≡_, refl, sym, _∙_, ap}
+use mathlib.Core.Path.{_≡_, refl, _∙_, ap}
 use mathlib.Core.Bool.{Bool, true, false, cond, _&&_}
 use mathlib.Core.List.{List}
 use lib.ListN.{length, getD, List·getD-eq-default}
-use lib.Dec.{leb, ltb, eqb, leb→le}
+use lib.Dec.{leb, ltb, leb→le}
 use mathlib.Core.Logic.{⊎-elim}
 use Rattle.lists.proofs.Arith.{le-or-lt}
 use Rattle.lists.proofs.Tests.{T-true, and-right}
-use borrow.Author.Tests.{le-leb, lt-leb, leb-true, lt-ltb, le-ltb, ne-eqb}
+use borrow.Author.Tests.{le-leb, lt-leb, lt-ltb, le-ltb, ne-eqb}
 use Rattle.refusal.specs.declared.Refusal.the-variants.{Malformed}
-use Rattle.refusal.specs.Checked.{Checked, accepted, refused}
 use Rattle.number.specs.Answers.{numberRead}
-use Rattle.number.specs.declared.Reading.{Reading}
 use Rattle.number.specs.declared.NumberRead.the-variants.{Value, Refused}
 use Rattle.text.specs.Decimal.{isDigit, endDigits, readDigits, readDecimal}
 use Rattle.text.specs.Digits.{digitAt}

@@ -1,6 +1,6 @@
 -- Arguments by hand, by computation. Assumes nothing.
 use mathlib.Core.Path.{_≡_, refl}
-use mathlib.Core.List.{List, [], _∷_}
+use mathlib.Core.List.{[], _∷_}
 use Rattle.refusal.specs.declared.Refusal.the-variants.{Malformed}
 use Rattle.refusal.specs.Checked.{accepted, refused}
 use Rattle.number.specs.Numbers.{readGroups, readNumber}

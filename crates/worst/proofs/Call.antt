@@ -29,7 +29,7 @@ use Rattle.placement.proofs.Units.{unit-rows-are}
 use Rattle.placement.proofs.TableRows.{UnitsIn, units-within, bytes-below, plain-units, fed-units}
 use Rattle.worst.specs.Worst.{fewSets, worstOf, checkWorst}
 use Rattle.worst.specs.Answers.{WorstDone}
-use Rattle.worst.specs.Asked.{RowsAsked, FeedersAsked, RowsDone, worstRows, worstFrom}
+use Rattle.worst.specs.Asked.{RowsAsked, FeedersAsked, RowsDone, worstFrom}
 use Rattle.worst.specs.declared.WorstCase.the-variants.{Fewest, Refused}
 
 module _ (shape : Shape) (order : Order) (rows out : List ℕ) where

@@ -5,7 +5,7 @@ use native.Mathlib.Omega.{arith}
 use native.Mathlib.Nat.{zero-add, add-zero, eq-or-lt-of-le}
 use mathlib.Core.Path.{_≡_, refl, sym, _∙_, ap}
 use mathlib.Core.Logic.{_⊎_, inl, inr, ⊎-elim}
-use mathlib.Core.Bool.{Bool, true, false, cond, _||_}
+use mathlib.Core.Bool.{Bool, true, false, cond}
 use mathlib.Core.List.{List, [], _∷_, _++_}
 use lib.ListN.{length}
 use lib.Dec.{T, ltb, eqb}
@@ -14,7 +14,7 @@ use Rattle.lists.specs.Lists.{All, tally, count, upTo}
 use Rattle.lists.proofs.Alls.{all-imp}
 use Rattle.lists.proofs.Counts.{count-le-length, count-congr-all}
 use Rattle.lists.proofs.Tests.{T-not-false}
-use Rattle.packing.specs.Rows.{ascending, member, distinct}
+use Rattle.packing.specs.Rows.{ascending, member}
 use Rattle.packing.specs.Failures.{Failure, FailedNodes, hits, usable}
 use Rattle.packing.proofs.Members.{le-of-member, ascending-distinct}
 use Rattle.worst.specs.Worst.{Worst, through, nodesFrom, usableWithout, noneYet, worstOver, Before}

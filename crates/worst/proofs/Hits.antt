@@ -1,8 +1,7 @@
 -- Each record's replicas on failed nodes, as nodes are chosen and left. Assumes nothing.
 use Prim.Native.Nat.{ℕ, zero, suc, _+_, _-_, _≤_, _<_}
 use native.Mathlib.Omega.{arith}
-use native.Mathlib.Numerals.{add-one}
-use mathlib.Core.Path.{_≡_, refl, sym, _∙_, ap}
+use mathlib.Core.Path.{_≡_, refl, sym, _∙_}
 use mathlib.Core.Logic.{⊎-elim}
 use mathlib.Core.Bool.{Bool, true, false}
 use mathlib.Core.List.{List, [], _∷_, _++_}
@@ -10,7 +9,7 @@ use lib.ListN.{length, getD, set, length-set}
 use lib.Seq.{getD-set-same, getD-set-other}
 use lib.Dec.{ltb, eqb}
 use borrow.Author.Tests.{lt-ltb, le-ltb, eq-eqb, ne-eqb, eqb-true, eqb-false}
-use Rattle.lists.specs.Lists.{tally, count, upTo}
+use Rattle.lists.specs.Lists.{tally, count}
 use Rattle.lists.proofs.Arith.{le-or-lt}
 use Rattle.lists.proofs.CountUpTo.{count-upTo-congr, count-getD}
 use Rattle.worst.specs.Records.{among, begin, size, onNode, onSet, usableBy, Index, HitsOf, few, raisedTo, loweredTo, lostTo}

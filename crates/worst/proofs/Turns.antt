@@ -2,15 +2,15 @@
 use Prim.Native.Nat.{ℕ, zero, suc, _+_, _-_, _≤_, _<_}
 use native.Mathlib.Omega.{arith}
 use native.Mathlib.Numerals.{add-one}
-use mathlib.Core.Path.{_≡_, refl, ap}
+use mathlib.Core.Path.{_≡_, ap}
 use mathlib.Core.Bool.{Bool, true, false}
 use mathlib.Core.List.{List}
 use lib.ListN.{length, getD, set}
 use lib.Dec.{eqb}
 use Rattle.lists.specs.Lists.{tally}
 use Rattle.lists.proofs.Counts.{tally-le-suc}
-use Rattle.worst.specs.Records.{among, few, raisedTo, loweredTo, lostTo}
-use Rattle.worst.specs.Searches.{Named, Raising, Lowering}
+use Rattle.worst.specs.Records.{among, raisedTo, loweredTo, lostTo}
+use Rattle.worst.specs.Searches.{Raising, Lowering}
 use Rattle.worst.specs.declared.Entries.{Entries}
 use Rattle.worst.proofs.Among.{among-mono}
 use Rattle.worst.proofs.Hits.{among-itself, length-raised, length-lowered, getD-raised, getD-lowered}

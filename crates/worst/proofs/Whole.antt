@@ -3,7 +3,7 @@ use Prim.Native.Nat.{ℕ, zero, suc, _+_, _-_, _*_, _≤_, _<_}
 use native.Mathlib.Omega.{arith}
 use native.Mathlib.Nat.{le-of-eq, sub-zero}
 use native.Mathlib.Numerals.{add-one}
-use mathlib.Core.Path.{_≡_, refl, sym, _∙_, ap, ap₂}
+use mathlib.Core.Path.{_≡_, refl, sym, _∙_, ap}
 use mathlib.Core.Logic.{inl, inr}
 use mathlib.Core.Bool.{Bool, true, false, not, _||_}
 use mathlib.Core.List.{List, [], _∷_, _++_, append-assoc, append-nil}
@@ -25,8 +25,8 @@ use Rattle.packing.proofs.Members.{distinct-head, distinct-tail, ascending-dist
 use Rattle.packing.proofs.RowsAt.{length-rowsAt}
 use Rattle.worst.specs.declared.Shape.{Shape}
 use Rattle.placement.specs.declared.Order.{Order}
-use Rattle.worst.specs.Worst.{Worst, lower, through, nodesFrom, usableWithout, noneYet, worstOver}
-use Rattle.worst.specs.Records.{onNode, onSet, usableBy, Index, IndexOf, HitsOf}
+use Rattle.worst.specs.Worst.{Worst, lower, through, nodesFrom, usableWithout, noneYet}
+use Rattle.worst.specs.Records.{onSet, usableBy, IndexOf}
 use Rattle.worst.specs.Searches.{Searching, Searched}
 use Rattle.worst.specs.Asked.{RowsAsked, RowsDone, worstRows}
 use Rattle.worst.specs.declared.Search.{Search}

@@ -1,5 +1,4 @@
 -- `export_placement::musseltwig_page` meets its contract: the call's own contract, told as numbers; or too short an answer slice. Assumes nothing.
-use native.Mathlib.Omega.{arith}
 use borrow.Author.Needs.{needs}
 use Rattle.exports.proofs.Told.{writing-told, writing-short}
 use Rattle.export_placement.proofs.musseltwig_page.Statement.{statement}

@@ -1,5 +1,4 @@
 -- `export_placement::musseltwig_rounds` meets its contract: the call's own contract, told as numbers; or too short an answer slice. Assumes nothing.
-use native.Mathlib.Omega.{arith}
 use borrow.Author.Needs.{needs}
 use Rattle.rounds.specs.Answers.{roundsOutcome}
 use Rattle.exports.proofs.Told.{put-told, short-told}

@@ -1,5 +1,4 @@
 -- `export_placement::musseltwig_worst_case` meets its contract: the call's own contract, told as numbers; or too short an answer slice. Assumes nothing.
-use native.Mathlib.Omega.{arith}
 use borrow.Author.Needs.{needs}
 use Rattle.export_placement.proofs.Exported.{worst-told, worst-short}
 use Rattle.export_placement.proofs.musseltwig_worst_case.Statement.{statement}

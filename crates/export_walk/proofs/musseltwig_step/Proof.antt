@@ -1,6 +1,5 @@
 -- `export_walk::musseltwig_step` meets its contract: the row's place and length, and the walk past it; or too short an answer slice. Assumes nothing.
-use mathlib.Core.Path.{refl, ap}
-use lib.ListN.{length}
+use mathlib.Core.Path.{refl}
 use Rattle.exports.proofs.Told.{put-told, short-told}
 use borrow.Author.Needs.{needs}
 use Rattle.export_walk.proofs.musseltwig_step.Statement.{statement}

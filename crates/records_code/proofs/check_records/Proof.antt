@@ -1,6 +1,4 @@
 -- `records_code::check_records` meets its contract: kind 6 is checked apart, and every other kind as its rows are. Assumes nothing.
-use native.Mathlib.Omega.{arith}
-use mathlib.Core.Path.{_≡_}
 use borrow.Author.Tests.{ne-eqb}
 use Rattle.records_code.proofs.Unfed.{unfed-answer}
 use borrow.Author.Needs.{needs}

@@ -1,7 +1,7 @@
 -- `replay_array::replay_first` meets its contract: a walk of its MIR, by hand. The array's first events are lent to `replay`, of which
 -- the proof knows no more than that it meets its contract. Assumes nothing.
 use mathlib.Core.Path.{_≡_, refl}
-use Prim.Native.Nat.{ℕ, _*_, _≤_}
+use Prim.Native.Nat.{ℕ, _≤_}
 use native.Mathlib.Omega.{arith}
 use mathlib.Core.List.{List, [], _∷_}
 use lib.ListN.{length, take}

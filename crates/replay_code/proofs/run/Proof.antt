@@ -27,13 +27,13 @@ use types.Kit.{Given, Item, ‵, raw, some, later, runs, anyQ, atRet, Sq, _⊛_,
 use types.Part.{whole, sub, look-in, agg}
 use types.Run.{look, store, init, forget, stop, hop, fld, from, load, lit, addr, of-opd, bin, and-then, no-more, assigns, assigns-last, first, skips, jumps, blocks, branches, land, returns, enter, alloc1, alloc0, params1, pass1, pass0, free1, free0, exec, Below, again, loops}
 use types.Tokens.{lft-new, lft-end}
-use sound.WpLaws.{FmC, fmOf, WpFn-mono}
+use sound.WpLaws.{fmOf, WpFn-mono}
 use denote.RattleType.{owns}
 use denote.Laws.{Is, shows}
 use denote.Memory.{pointee}
 use denote.Plain.{uint-makes}
 use denote.Ref.{RefT, now}
-use denote.Slice.{sliceTy, sliceVal, ShrSlice, MutSlice, Room, slice-vals, shr-slice-tells, shr-slice-lawful, shr-slice-copy, mut-slice-tells, finally}
+use denote.Slice.{sliceTy, sliceVal, ShrSlice, MutSlice, Room, slice-vals, shr-slice-tells, shr-slice-copy, mut-slice-tells}
 use denote.Signature.{plain}
 use denote.Builtin.{u16, usize}
 use denote.Steps.{only, nothing, owned, peeks, heard}
@@ -49,7 +49,7 @@ use denote.Exit.{yes}
 use Rattle.replay.specs.declared.Event.{Event}
 use Rattle.replay.specs.declared.Progress.{Progress}
 use Rattle.replay.specs.Log.{noEvent}
-use Rattle.replay.specs.Board.{rest, Standing, Stepped}
+use Rattle.replay.specs.Board.{Standing, Stepped}
 use Rattle.replay.proofs.Turns.{Turn, turn-start, turn-next, turn-end}
 use Rattle.replay.proofs.Event as E
 use Rattle.replay.proofs.Event.Laws as E′

@@ -1,7 +1,7 @@
 -- `replay_hits::restore` meets its contract. The loop's invariant: the entries seen are lowered. Assumes nothing.
 use Prim.Native.Nat.{_+_, _-_, _≤_, _<_}
 use native.Mathlib.Omega.{arith}
-use mathlib.Core.Path.{_≡_, refl, sym, _∙_, ap, subst}
+use mathlib.Core.Path.{_≡_, refl, sym, _∙_, subst}
 use lib.ListN.{length, getD, length-set}
 use Rattle.worst.specs.Records.{loweredTo}
 use Rattle.replay.specs.Board.{indexOf, hitsOf, Hit}

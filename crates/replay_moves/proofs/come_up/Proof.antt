@@ -1,6 +1,6 @@
 -- `replay_moves::come_up` meets its contract. Assumes nothing.
 use Prim.Native.Nat.{_+_, _≤_}
-use mathlib.Core.Path.{_≡_, refl, sym, _∙_, subst}
+use mathlib.Core.Path.{sym, _∙_, subst}
 use lib.Dec.{lit≤}
 use lib.ListN.{length-set}
 use Rattle.replay.proofs.Moves.{marked-long, marked-ordered, marked-usable, restoring, moved-up}

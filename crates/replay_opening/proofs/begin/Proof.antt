@@ -1,7 +1,6 @@
 -- `replay_opening::begin` meets its contract: the refusal of the placement's check, or its records listed. Assumes nothing.
-use Prim.Native.Nat.{_*_}
 use native.Mathlib.Omega.{arith}
-use mathlib.Core.Path.{_≡_, _∙_}
+use mathlib.Core.Path.{_∙_}
 use Rattle.worst.proofs.Call.{worst-inside, worst-asked, fed-asked}
 use Rattle.worst.proofs.Filling.{bytes-most}
 use Rattle.replay.proofs.Parts.{length-index}

@@ -1,5 +1,5 @@
 -- `replay_opening::list_by_feeder` meets its contract: the records by the rows of feeders in its buffer. Assumes nothing.
-use Prim.Native.Nat.{ℕ, _*_}
+use Prim.Native.Nat.{ℕ}
 use native.Mathlib.Omega.{arith}
 use lib.ListN.{length-replicate}
 use Rattle.replay_opening.proofs.Fed.{few-bytes, rows-below, fed-long, fed-index}

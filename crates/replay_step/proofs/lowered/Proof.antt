@@ -1,6 +1,5 @@
 -- `replay_step::lowered` meets its contract. Assumes nothing.
-use native.Mathlib.Omega.{arith}
-use mathlib.Core.Path.{_≡_, refl, sym, _∙_, ap}
+use mathlib.Core.Path.{sym, _∙_, ap}
 use Rattle.replay.specs.Board.{loweredTo}
 use Rattle.replay.proofs.Steps.{lowered-less, lowered-not}
 use borrow.Author.Needs.{needs}

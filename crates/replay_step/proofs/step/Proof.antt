@@ -1,6 +1,6 @@
 -- `replay_step::step` meets its contract. Assumes nothing.
 use native.Mathlib.Omega.{arith}
-use mathlib.Core.Path.{_≡_, refl, sym, _∙_, ap}
+use mathlib.Core.Path.{sym, _∙_}
 use Rattle.replay.specs.Board.{downOf}
 use Rattle.replay.proofs.Steps.{not-true, not-false, good-event, step-over, step-counting, step-refused, step-moved}
 use borrow.Author.Needs.{needs}

@@ -1,5 +1,4 @@
 -- `split_count::next_count` meets its contract. Assumes nothing.
-use Prim.Native.Nat.{_+_, min}
 use borrow.Author.Tests.{le-leb, lt-leb}
 use mathlib.Core.Path.{refl}
 use native.Mathlib.Omega.{arith}

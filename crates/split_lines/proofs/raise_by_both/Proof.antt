@@ -1,6 +1,4 @@
 -- `split_lines::raise_by_both` meets its contract. Assumes nothing.
-use Prim.Native.Nat.{_+_, _≤_, _<_}
-use mathlib.Core.Path.{sym, _∙_}
 use Rattle.split_lines.proofs.Raising.{whole-le}
 use Rattle.split_lines.proofs.Stepping.{periods-none}
 use Rattle.split_lines.proofs.Both.{both-stepping, both-lowerable, both-below, both-aside, both-same, both-written}

@@ -1,7 +1,6 @@
 -- `split_lines::repeat_line` meets its contract. The loop's invariant: the entries before place `i` are written. Assumes nothing.
 use Prim.Native.Nat.{_-_}
-use lib.ListN.{getD}
-use Rattle.split_lines.proofs.Raising.{lineUnder, Repeated, repeated-none, repeated-next, repeated-all}
+use Rattle.split_lines.proofs.Raising.{Repeated, repeated-none, repeated-next, repeated-all}
 use native.Mathlib.Omega.{arith}
 use Rattle.split_lines.proofs.repeat_line.Statement.{statement}
 use Rattle.split_lines.proofs.repeat_line.Tie as tie

@@ -1,6 +1,5 @@
 -- `worst_code::worst_case` meets its contract: the refusal of the placement's check, or what its rows give, by nodes or by feeders.
 -- Assumes nothing.
-use Prim.Native.Nat.{_+_, _*_, _≤_}
 use native.Mathlib.Omega.{arith}
 use mathlib.Core.Path.{refl}
 use Rattle.worst.proofs.Call.{worst-inside, worst-asked, worst-of-check, fed-asked, worst-of-fed, worst-of-refused}

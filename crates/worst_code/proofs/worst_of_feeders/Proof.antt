@@ -1,7 +1,6 @@
 -- `worst_code::worst_of_feeders` meets its contract, over the rows of feeders in its buffer. Assumes nothing.
 use Prim.Native.Nat.{ℕ, _*_, _≤_}
 use native.Mathlib.Omega.{arith}
-use mathlib.Core.Path.{_≡_, _∙_}
 use mathlib.Core.List.{List}
 use lib.ListN.{length, replicate, length-replicate}
 use Rattle.lists.proofs.Alls.{all-take}

@@ -1,5 +1,4 @@
 -- `crowding_sums::count::count_sum` meets its contract. Assumes nothing.
-use native.Mathlib.Omega.{arith}
 use borrow.Author.Needs.{needs}
 use Rattle.crowding_pairs.proofs.Cells.{raised-one}
 use Rattle.crowding_sums.proofs.count.count_sum.Statement.{statement}

@@ -1,5 +1,4 @@
 -- `crowding_sums::rows::most_in` meets its contract: the largest cell of a table that was all zeros. Assumes nothing.
-use native.Mathlib.Omega.{arith}
 use mathlib.Core.Path.{_∙_}
 use borrow.Author.Needs.{needs}
 use Rattle.crowding_sums.proofs.Rooms.{to-count, counted-most}

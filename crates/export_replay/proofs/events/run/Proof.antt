@@ -1,7 +1,7 @@
 -- `export_replay::events::run` meets its contract: in each turn what the rest of the log gives stays the same. Assumes nothing.
 use Prim.Native.Nat.{ℕ, _-_, _≤_}
 use native.Mathlib.Omega.{arith}
-use mathlib.Core.Path.{_≡_, refl, sym, _∙_, ap}
+use mathlib.Core.Path.{_≡_, refl, sym, _∙_}
 use mathlib.Core.List.{List}
 use lib.ListN.{length, drop}
 use Rattle.replay.specs.declared.Progress.{Progress}

@@ -1,5 +1,4 @@
 -- `page_lines::fields::put_node` meets its contract: the four characters that stand in `fields`. Assumes nothing.
-use Prim.Native.Nat.{_≤_}
 use mathlib.Core.Path.{_∙_, ap}
 use lib.ListN.{length, length-set}
 use Rattle.page_lines.proofs.ByteFields.{length-byteFields, byte-stored}

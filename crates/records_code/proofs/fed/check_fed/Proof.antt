@@ -1,9 +1,9 @@
 -- `records_code::fed::check_fed` meets its contract: each return is a case of `checkRecords` of kind 6, over what reading the feeders and
 -- testing the rows ensure. Assumes nothing.
-use Prim.Native.Nat.{_+_, _*_, _^_, _≤_, _<_}
+use Prim.Native.Nat.{_+_, _*_, _≤_}
 use native.Mathlib.Omega.{arith}
-use mathlib.Core.Path.{_≡_, sym, _∙_, ap}
-use lib.ListN.{length, take}
+use mathlib.Core.Path.{sym, _∙_, ap}
+use lib.ListN.{take}
 use Rattle.layers.specs.Answers.{siteOf}
 use Rattle.placement.specs.Answers.{recordsCheck}
 use Rattle.placement.specs.Feeders.{readNumbered}

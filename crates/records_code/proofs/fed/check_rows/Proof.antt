@@ -1,7 +1,7 @@
 -- `records_code::fed::check_rows` meets its contract: each return is a case of `fedRowsChecked`. Assumes nothing.
 use Prim.Native.Nat.{_+_, _*_, _≤_}
 use native.Mathlib.Omega.{arith}
-use mathlib.Core.Path.{_≡_, ap}
+use mathlib.Core.Path.{ap}
 use lib.ListN.{length}
 use Rattle.placement.specs.Asked.{tableFeeders}
 use Rattle.records_code.proofs.FedAnswers.{fed-unordered, fed-rows, fed-dark, fed-left}

@@ -2,7 +2,7 @@
 -- nothing.
 use Prim.Native.Nat.{ℕ, _+_, _*_, _≤_}
 use native.Mathlib.Omega.{arith}
-use mathlib.Core.Path.{_≡_, sym, _∙_, ap}
+use mathlib.Core.Path.{sym, _∙_, ap}
 use lib.ListN.{length, length-replicate}
 use Rattle.layers.proofs.Listing.{length-nodesArray}
 use Rattle.layers_code.proofs.RowsAnswers.{rows-small}

@@ -1,7 +1,6 @@
 -- `records_code::feeders::put_feeders` meets its contract: the part of the buffer that it lends comes back with the rows. Assumes nothing.
-use Prim.Native.Nat.{_-_}
 use native.Mathlib.Omega.{arith}
-use lib.ListN.{length, length-drop}
+use lib.ListN.{length-drop}
 use Rattle.lists.proofs.Writing.{take-drop-rest}
 use Rattle.records_code.proofs.UnitAnswers.{put-back}
 use borrow.Author.Needs.{needs}

@@ -1,6 +1,5 @@
 -- `rows_text_reader::lines::add_numbers` meets its contract. Assumes nothing.
 use Rattle.rows_text_reader.proofs.Content.{by-table, by-out, by-order, plain-none, plain-some}
-use native.Mathlib.Omega.{arith}
 use borrow.Author.Needs.{needs}
 use Rattle.rows_text_reader.proofs.lines.add_numbers.Statement.{statement}
 use Rattle.rows_text_reader.proofs.lines.add_numbers.Tie as tie

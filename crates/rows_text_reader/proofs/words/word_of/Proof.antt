@@ -1,7 +1,6 @@
 -- `rows_text_reader::words::word_of` meets its contract. Assumes nothing.
 use Rattle.table.specs.Lines.{begins}
 use Rattle.rows_text.specs.Words.{wordOf}
-use native.Mathlib.Omega.{arith}
 use borrow.Author.Needs.{needs}
 use Rattle.rows_text_reader.proofs.words.word_of.Statement.{statement}
 use Rattle.rows_text_reader.proofs.words.word_of.Tie as tie

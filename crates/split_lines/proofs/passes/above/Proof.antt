@@ -1,9 +1,5 @@
 -- `split_lines::passes::above` meets its contract. Assumes nothing.
-use Prim.Native.Nat.{_<_}
 use borrow.Author.Tests.{lt-ltb, le-ltb}
-use native.Mathlib.Omega.{arith}
-use Rattle.lists.specs.Lists.{tally}
-use mathlib.Core.Path.{sym, ap}
 use Rattle.split_lines.proofs.passes.above.Statement.{statement}
 use Rattle.split_lines.proofs.passes.above.Tie as tie
 

@@ -1,6 +1,6 @@
 -- `split_lines::periods::whole_periods` meets its contract. The loop's invariant: the entries before place `i` are laid down, or all.
 -- Assumes nothing.
-use Prim.Native.Nat.{_+_, _-_, _≤_, min}
+use Prim.Native.Nat.{_-_, _≤_, min}
 use mathlib.Core.Path.{sym, _∙_}
 use lib.ListN.{length}
 use Rattle.split.specs.Working.{Periods}

@@ -2,7 +2,6 @@
 use Prim.Native.Nat.{_-_}
 use lib.ListN.{length}
 use Rattle.table_lines.proofs.Looking.{Looked, looked-none, looked-here, looked-next, looked-all}
-use native.Mathlib.Omega.{arith}
 use borrow.Author.Needs.{needs}
 use Rattle.table_lines.proofs.bytes.first_of.Statement.{statement}
 use Rattle.table_lines.proofs.bytes.first_of.Tie as tie

@@ -1,6 +1,5 @@
 -- `table_lines::words::word_of` meets its contract. Assumes nothing.
 use Rattle.table.specs.Lines.{wordOf, begins}
-use native.Mathlib.Omega.{arith}
 use borrow.Author.Needs.{needs}
 use Rattle.table_lines.proofs.words.word_of.Statement.{statement}
 use Rattle.table_lines.proofs.words.word_of.Tie as tie

@@ -1,6 +1,5 @@
 -- `table_reader::lines::add_numbers` meets its contract. Assumes nothing.
 use Rattle.table_reader.proofs.Content.{by-table, by-out, by-mu, plain-none, plain-some}
-use native.Mathlib.Omega.{arith}
 use borrow.Author.Needs.{needs}
 use Rattle.table_reader.proofs.lines.add_numbers.Statement.{statement}
 use Rattle.table_reader.proofs.lines.add_numbers.Tie as tie

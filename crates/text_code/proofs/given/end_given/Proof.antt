@@ -1,5 +1,4 @@
 -- `text_code::given::end_given` meets its contract. Assumes nothing.
-use native.Mathlib.Omega.{arith}
 use mathlib.Core.Path.{sym, _∙_}
 use borrow.Author.Tests.{eq-eqb, ne-eqb}
 use Rattle.text.proofs.Numbers.{end-none, end-some}

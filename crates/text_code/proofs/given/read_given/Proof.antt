@@ -1,7 +1,6 @@
 -- `text_code::given::read_given` meets its contract. The loop's invariant: the numbers that are left to read answer for the whole. The
 -- measure is how many these are. Assumes nothing.
 use Prim.Native.Nat.{_-_}
-use native.Mathlib.Omega.{arith}
 use mathlib.Core.Path.{sym, _∙_}
 use Rattle.number.proofs.Within.{numberRead-value, numberRead-refused}
 use Rattle.text.proofs.Numbers.{GivenTurn, given-holds, given-all, given-unread, given-again}

@@ -1,5 +1,4 @@
 -- `text_code::given::read_one` meets its contract. Assumes nothing.
-use native.Mathlib.Omega.{arith}
 use mathlib.Core.Path.{sym, _∙_, ap}
 use Rattle.number.specs.Answers.{numberRead}
 use Rattle.text.proofs.Numbers.{given-none, given-some}

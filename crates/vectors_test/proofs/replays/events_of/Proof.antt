@@ -2,7 +2,6 @@
 use Prim.Native.Nat.{_-_, _*_, _≤_}
 use native.Mathlib.Omega.{arith}
 use mathlib.Core.Path.{_≡_}
-use lib.ListN.{length}
 use borrow.Author.Needs.{needs}
 use Rattle.vectors_test.proofs.replays.events_of.Statement.{statement}
 use Rattle.vectors_test.proofs.replays.events_of.Tie as tie

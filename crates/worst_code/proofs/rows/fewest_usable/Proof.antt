@@ -1,7 +1,7 @@
 -- `worst_code::rows::fewest_usable` meets its contract. Assumes nothing.
 use Prim.Native.Nat.{ℕ}
 use native.Mathlib.Omega.{arith}
-use mathlib.Core.Path.{_≡_, _∙_, ap}
+use mathlib.Core.Path.{_∙_, ap}
 use lib.ListN.{length, length-replicate}
 use Rattle.worst.proofs.Filling.{bytes-most}
 use Rattle.worst.proofs.Whole.{zeros-part, to-start, searched-rows}
