@@ -23,7 +23,7 @@ from certify import bare_bytes  # noqa: E402
 from check_packings import pack_bytes  # noqa: E402
 from constructions import catalogue  # noqa: E402
 from script import Script  # noqa: E402
-from vectors import call_certify, call_check_placement, call_plan, call_worst, room_for  # noqa: E402
+from vector_calls import call_certify, call_check_placement, call_plan, call_worst, room_for  # noqa: E402
 
 WIDTH = 6  # the scatter width of the copysets, [LV]'s own example
 SEED = 2026

@@ -13,6 +13,13 @@ from reading import LARGEST, base_numbers, in_groups, number_bytes, numbers, rea
 from seven import DARK_P, NINE, NINES, P, P_LISTED, SEVEN
 
 
+def with_line(text, number, new):
+    """The text with another line in the place of this one."""
+    lines = text.split("\n")
+    lines[number - 1] = new
+    return "\n".join(lines)
+
+
 def order(s, k, b):
     return numbers(s, k, b)
 

@@ -7,40 +7,20 @@ fault in turn, texts damaged by a byte, and the longest that are taken; random f
 printed of them read back. The seed is fresh at each run and printed first, so that a run can be repeated. The programs are those that
 `rt check` builds, target/bin/rows_main and target/bin/listing_main.
 """
-import random
-import secrets
 import sys
-from pathlib import Path
 
 from bare import random_bare
 from cases import damaged, padded
 from certify import bare_bytes, check_bare
-from programs import Programs
-from random_tables import written_otherwise
+from random_tables import run_all, run_faulty, written_otherwise
 from rows_text import listing_reply, rows_reply, rows_text
 from table import TEXT_MOST
-
-BUILT = Path(__file__).resolve().parent.parent / "target" / "bin"
 
 # of refusals 1, 4, 6, 15, 23 and 24: what a line becomes, where it is to be another
 FAULTS = ["", "rows 1 2", "rows 256 2", "rows 7 6", "rows 9", "out 255", "out 1 1", "out 0", "out", "out 0 1", "order 0 1", "order 1 0", "order 2 1",
           "order 2", "order 1 1 1", "order 1 255", "order 6 6", "order", "0 1", "1 0", "0 0", "0 255", "0 1 2", "0 1 2 3", "0 1 2 3 4",
           "0 1 2 3 4 5", "000000000 1", "99999999 1", "x", "0,1", "\x00", "-1 2", "order" + " 1" * 255, "order" + " 1" * 256, "row 7 3", "Order 1 1",
           " order 1 1", "table 7 3", "mu 1"]
-
-
-def faulty(draw, text):
-    """The text with a line that is another, left out, or twice."""
-    lines = text.split(b"\n")
-    at = draw.randrange(min(4, len(lines))) if draw.random() < 0.5 else draw.randrange(len(lines))
-    choice = draw.randrange(5)
-    if choice == 0:
-        del lines[at]
-    elif choice == 1:
-        lines.insert(draw.randrange(len(lines) + 1), lines[at])
-    else:
-        lines[at] = draw.choice(FAULTS).encode()
-    return b"\n".join(lines)
 
 
 def run_some(programs, draw):
@@ -55,8 +35,7 @@ def run_some(programs, draw):
     other = written_otherwise(draw, text)
     assert programs.run("rows", other) == bare
     for start in (text, other):
-        for data in (faulty(draw, start), faulty(draw, start), damaged(draw, start)):
-            programs.run("rows", data)
+        run_faulty(programs, draw, "rows", start, FAULTS)
 
 
 def run_longest(programs, draw):
@@ -76,16 +55,5 @@ def run_longest(programs, draw):
                 programs.run("rows", b"rows %d 2\n" % n + out + b"\norder 1 1\n" + row)
 
 
-def main(count=1_000, seed=None):
-    seed = int(seed) if seed else secrets.randbelow(10 ** 9)
-    print(f"seed {seed}", flush=True)
-    draw, programs = random.Random(seed), Programs(BUILT / "check_main", BUILT / "plan_main")
-    programs.programs.update(rows=(BUILT / "rows_main", rows_reply), listing=(BUILT / "listing_main", listing_reply))
-    run_longest(programs, draw)
-    while sum(programs.seen.values()) < int(count):
-        run_some(programs, draw)
-    sys.exit(programs.tell())
-
-
 if __name__ == "__main__":
-    main(*sys.argv[1:])
+    run_all({"rows": rows_reply, "listing": listing_reply}, run_longest, run_some, *sys.argv[1:])

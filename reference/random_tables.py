@@ -37,18 +37,23 @@ def written_otherwise(draw, text):
     return "\n".join(lines).encode()
 
 
-def faulty(draw, text):
-    """The text with a line that is another, left out, twice, or moved."""
+def faulty(draw, text, faults):
+    """The text with a line that is a fault, left out, or twice."""
     lines = text.split(b"\n")
-    at = draw.randrange(len(lines))
+    at = draw.randrange(min(4, len(lines))) if draw.random() < 0.5 else draw.randrange(len(lines))
     choice = draw.randrange(5)
     if choice == 0:
         del lines[at]
     elif choice == 1:
         lines.insert(draw.randrange(len(lines) + 1), lines[at])
     else:
-        lines[at] = draw.choice(FAULTS).encode()
+        lines[at] = draw.choice(faults).encode()
     return b"\n".join(lines)
+
+
+def run_faulty(programs, draw, name, text, faults):
+    for data in (faulty(draw, text, faults), faulty(draw, text, faults), damaged(draw, text)):
+        programs.run(name, data)
 
 
 def run_some(programs, draw):
@@ -64,8 +69,7 @@ def run_some(programs, draw):
     other = written_otherwise(draw, text)
     assert programs.run("pack", other) == again
     for start in (text, other):
-        for data in (faulty(draw, start), faulty(draw, start), damaged(draw, start)):
-            programs.run("pack", data)
+        run_faulty(programs, draw, "pack", start, FAULTS)
 
 
 def run_longest(programs, draw):
@@ -77,16 +81,17 @@ def run_longest(programs, draw):
     programs.run("pack", many + b"0 1")
 
 
-def main(count=1_000, seed=None):
+def run_all(replies, longest, some, count=1_000, seed=None):
+    """Runs the built programs of these names, whose replies are expected: the longest inputs, then some at a time."""
     seed = int(seed) if seed else secrets.randbelow(10 ** 9)
     print(f"seed {seed}", flush=True)
     draw, programs = random.Random(seed), Programs(BUILT / "check_main", BUILT / "plan_main")
-    programs.programs.update(pack=(BUILT / "pack_main", pack_reply), table=(BUILT / "table_main", table_reply))
-    run_longest(programs, draw)
+    programs.programs.update({name: (BUILT / f"{name}_main", reply) for name, reply in replies.items()})
+    longest(programs, draw)
     while sum(programs.seen.values()) < int(count):
-        run_some(programs, draw)
+        some(programs, draw)
     sys.exit(programs.tell())
 
 
 if __name__ == "__main__":
-    main(*sys.argv[1:])
+    run_all({"pack": pack_reply, "table": table_reply}, run_longest, run_some, *sys.argv[1:])

@@ -1,68 +1,38 @@
 """Bare rows as text: docs/FORMATS.md, 'Bare rows as text'."""
 from certify import bare_bytes, check_bare
 from document01 import Refused
-from table import TEXT_MOST, ascending, content, or_refused, printed, printed_out, printed_rows
-
-WORDS = (b"rows", b"out", b"order")
+from table import Draft, made, or_refused, printed, printed_out, printed_rows
 
 
-class Rows:
+class Rows(Draft):
+    words = (b"rows", b"out", b"order")
+
     def __init__(self):
-        self.n = self.r = self.s = self.k = 0
-        self.dark, self.rows, self.lines = [], [], []
+        super().__init__()
+        self.s = self.k = 0
+        self.placed = []
 
-    def add(self, line, word, numbers):
-        fail = Refused(23, line)
-        if word == b"rows":
-            if self.r or len(numbers) != 2:
-                raise fail
-            n, r = numbers
-            if not (2 <= n <= 255 and 2 <= r <= 5 and r <= n):
-                raise Refused(4, line)
-            self.n, self.r = n, r
-        elif word == b"out":
-            if not self.r or self.dark or self.s:
-                raise fail
-            if not ascending(numbers, self.n):
-                raise Refused(4, line)
-            self.dark = numbers
-        elif word == b"order":
-            if not self.r or self.s or len(numbers) != 2:
-                raise fail
-            s, k = numbers
-            if len(self.dark) == self.n or not (1 <= s <= self.r and s <= k <= self.n - 1):
-                raise Refused(4, line)
-            self.s, self.k = s, k
-        elif numbers:
-            if not self.s or len(numbers) != self.r:
-                raise fail
-            if len(self.rows) == 4_096:
-                raise Refused(4, line)
-            if not ascending(numbers, self.n):
-                raise Refused(6, line)
-            self.rows.append(numbers)
-            self.lines.append(line)
+    def rows(self):
+        return self.placed if self.s else None
+
+    def begin_rows(self, line, numbers):
+        if not self.r or self.s or len(numbers) != 2:
+            raise Refused(23, line)
+        s, k = numbers
+        if len(self.dark) == self.n or not (1 <= s <= self.r and s <= k <= self.n - 1):
+            raise Refused(4, line)
+        self.s, self.k = s, k
+
+    def is_whole(self):
+        return self.placed
+
+    def file(self):
+        return bare_bytes(self.n, self.r, self.dark, self.s, self.k, self.placed)
 
 
 def make_rows(text):
     """The file of bare rows of a text, or Refused with a line."""
-    if len(text) >= TEXT_MOST:
-        raise Refused(24, TEXT_MOST)
-    draft, lines = Rows(), text.split(b"\n")
-    for line, data in enumerate(lines, 1):
-        read = content(data, WORDS)
-        if read is None:
-            raise Refused(23, line)
-        draft.add(line, *read)
-    if not draft.rows:
-        raise Refused(1, len(lines))
-    data = bare_bytes(draft.n, draft.r, draft.dark, draft.s, draft.k, draft.rows)
-    try:
-        check_bare(data)
-    except Refused as e:
-        first = len(data) - len(draft.rows) * draft.r
-        raise Refused(e.number, draft.lines[(e.place - first) // draft.r])
-    return data
+    return made(Rows(), text, check_bare)
 
 
 def rows_reply(text):

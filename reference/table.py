@@ -23,65 +23,100 @@ def ascending(numbers, n):
     return all(a < b for a, b in zip(numbers, numbers[1:])) and all(v < n for v in numbers)
 
 
-class Table:
+class Draft:
+    """What the lines of a text have said so far: n and r, the nodes out of service, then rows. A form of text has its own first word,
+    the word of what begins its rows, and the file that it becomes."""
+    words = ()
+
     def __init__(self):
         self.n = self.r = 0
-        self.dark, self.layers, self.lines = [], [], []
+        self.dark, self.lines = [], []
 
     def add(self, line, word, numbers):
-        fail = Refused(23, line)
-        if word == b"table":
-            if self.r or len(numbers) != 2:
-                raise fail
-            n, r = numbers
-            if not (2 <= n <= 255 and 2 <= r <= 5 and r <= n):
-                raise Refused(4, line)
-            self.n, self.r = n, r
-        elif word == b"out":
-            if not self.r or self.dark or self.layers:
-                raise fail
-            if not ascending(numbers, self.n):
-                raise Refused(4, line)
-            self.dark = numbers
-        elif word == b"mu":
-            if not self.r or len(self.layers) == self.r or len(numbers) != 1:
-                raise fail
-            if not 1 <= numbers[0] <= 4_096:
-                raise Refused(4, line)
-            self.layers.append((numbers[0], []))
+        head, out, begins = self.words
+        if word == head:
+            self.add_head(line, numbers)
+        elif word == out:
+            self.add_out(line, numbers)
+        elif word == begins:
+            self.begin_rows(line, numbers)
         elif numbers:
-            if not self.layers or len(numbers) != self.r:
-                raise fail
-            if len(self.lines) == 4_096:
-                raise Refused(4, line)
-            if not ascending(numbers, self.n):
-                raise Refused(6, line)
-            self.layers[-1][1].append(numbers)
-            self.lines.append(line)
+            self.add_row(line, numbers)
 
-    def pack(self):
+    def add_head(self, line, numbers):
+        if self.r or len(numbers) != 2:
+            raise Refused(23, line)
+        n, r = numbers
+        if not (2 <= n <= 255 and 2 <= r <= 5 and r <= n):
+            raise Refused(4, line)
+        self.n, self.r = n, r
+
+    def add_out(self, line, numbers):
+        if not self.r or self.dark or self.rows() is not None:
+            raise Refused(23, line)
+        if not ascending(numbers, self.n):
+            raise Refused(4, line)
+        self.dark = numbers
+
+    def add_row(self, line, numbers):
+        if self.rows() is None or len(numbers) != self.r:
+            raise Refused(23, line)
+        if len(self.lines) == 4_096:
+            raise Refused(4, line)
+        if not ascending(numbers, self.n):
+            raise Refused(6, line)
+        self.rows().append(numbers)
+        self.lines.append(line)
+
+
+def made(draft, text, check):
+    """The file of a text that is read into the draft, or Refused with a line."""
+    if len(text) >= TEXT_MOST:
+        raise Refused(24, TEXT_MOST)
+    lines = text.split(b"\n")
+    for line, data in enumerate(lines, 1):
+        read = content(data, draft.words)
+        if read is None:
+            raise Refused(23, line)
+        draft.add(line, *read)
+    if not draft.is_whole():
+        raise Refused(1, len(lines))
+    file = draft.file()
+    try:
+        check(file)
+    except Refused as e:
+        first = len(file) - len(draft.lines) * draft.r
+        raise Refused(e.number, draft.lines[(e.place - first) // draft.r])
+    return file
+
+
+class Table(Draft):
+    words = WORDS
+
+    def __init__(self):
+        super().__init__()
+        self.layers = []
+
+    def rows(self):
+        return self.layers[-1][1] if self.layers else None
+
+    def begin_rows(self, line, numbers):
+        if not self.r or len(self.layers) == self.r or len(numbers) != 1:
+            raise Refused(23, line)
+        if not 1 <= numbers[0] <= 4_096:
+            raise Refused(4, line)
+        self.layers.append((numbers[0], []))
+
+    def is_whole(self):
+        return self.r and len(self.layers) == self.r
+
+    def file(self):
         return pack_bytes({"kind": 4, "n": self.n, "r": self.r, "dark": self.dark, "layers": self.layers})
 
 
 def make_pack(text):
     """The pack of a text, or Refused with a line."""
-    if len(text) >= TEXT_MOST:
-        raise Refused(24, TEXT_MOST)
-    table, lines = Table(), text.split(b"\n")
-    for line, data in enumerate(lines, 1):
-        read = content(data)
-        if read is None:
-            raise Refused(23, line)
-        table.add(line, *read)
-    if not table.r or len(table.layers) != table.r:
-        raise Refused(1, len(lines))
-    pack = table.pack()
-    try:
-        check_pack(pack)
-    except Refused as e:
-        first = len(pack) - len(table.lines) * table.r
-        raise Refused(e.number, table.lines[(e.place - first) // table.r])
-    return pack
+    return made(Table(), text, check_pack)
 
 
 def or_refused(write, given):

@@ -7,9 +7,10 @@ from pathlib import Path
 sys.path.insert(0, str(Path(__file__).resolve().parent))
 
 from bare import BARE_DARK, BARE_SEVEN, faults, limits, random_bare, worked
-from cases import padded
+from cases import padded, with_line
 from certify import bare_bytes, check_bare
 from document01 import Refused
+from reading import refusal
 from rows_text import listing_reply, make_rows, rows_reply, rows_text
 
 CRATES = Path(__file__).resolve().parent.parent / "crates"
@@ -28,18 +29,11 @@ order 2 3
 
 
 def said(text):
-    try:
-        make_rows(text.encode())
-    except Refused as e:
-        return e.number, e.place
-    return None
+    return refusal(make_rows, text.encode())
 
 
 def line(number, new, text=SEVEN):
-    """The text with another line in the place of this one."""
-    lines = text.split("\n")
-    lines[number - 1] = new
-    return "\n".join(lines)
+    return with_line(text, number, new)
 
 
 class RowsText(unittest.TestCase):

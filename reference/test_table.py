@@ -6,7 +6,9 @@ from pathlib import Path
 
 sys.path.insert(0, str(Path(__file__).resolve().parent))
 
-from document01 import Refused, check_pack, pack_bytes
+from cases import with_line
+from document01 import check_pack, pack_bytes
+from reading import refusal
 from table import make_pack, pack_reply, table_reply, table_text
 
 CRATES = Path(__file__).resolve().parent.parent / "crates"
@@ -28,18 +30,11 @@ mu 1
 
 
 def said(text):
-    try:
-        make_pack(text if isinstance(text, bytes) else text.encode())
-    except Refused as e:
-        return e.number, e.place
-    return None
+    return refusal(make_pack, text if isinstance(text, bytes) else text.encode())
 
 
 def line(number, new, text=SEVEN):
-    """The text with another line in the place of this one."""
-    lines = text.split("\n")
-    lines[number - 1] = new
-    return "\n".join(lines)
+    return with_line(text, number, new)
 
 
 def random_pack(draw):
