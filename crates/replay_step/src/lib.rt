@@ -60,19 +60,20 @@ fn check_event(n: usize, time: u32, i: usize, event: Event, board: &[u16]) -> Ve
     Verdict::Good
 }
 
-// The answer of the log so far after event i, which leaves `usable` records.
+// The answer of the log so far after event i, which leaves `usable` records. It is made anew where it stays: to hand it on whole would
+// copy the unused bytes of the enum too, which waits for the event before.
 fn lowered(answer: Replayed, usable: usize, i: usize) -> Replayed
     ensures { λ r. ⌜ r ≡ loweredTo usable i answer ⌝ }
 {
     match answer {
-        Replayed::Lowest(low, _) => {
+        Replayed::Lowest(low, at) => {
             if usable < low {
                 return Replayed::Lowest(usable, i);
             }
-            answer
+            Replayed::Lowest(low, at)
         }
         Replayed::Quiet(_) => Replayed::Lowest(usable, i),
-        Replayed::Refused(_) => answer,
+        Replayed::Refused(e) => Replayed::Refused(e),
     }
 }
 

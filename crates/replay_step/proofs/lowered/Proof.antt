@@ -15,8 +15,8 @@ returns c = lowered-less _ _ _ _ (c .if1 .taken) ∙ sym (ap (loweredTo _ _) (c 
 enum-told : tie.Need-enum-told
 enum-told c = search needs
 
-enum-told-2 : tie.Need-enum-told-2
-enum-told-2 c = search needs
+enum-known-answer-2 : tie.Need-enum-known-answer-2
+enum-known-answer-2 c = search needs
 
 returns-2 : tie.Need-returns-2
 returns-2 c =
@@ -26,9 +26,9 @@ returns-3 : tie.Need-returns-3
 returns-3 c = sym (ap (loweredTo _ _) (c .enum-told .given .1))
 
 returns-4 : tie.Need-returns-4
-returns-4 c = c .enum-told2 .given .1 ∙ sym (ap (loweredTo _ _) (c .enum-told2 .given .1))
+returns-4 c = sym (ap (loweredTo _ _) (c .before .answer2 .given .1))
 
 pub lowered-spec : {M : Type 1} → statement M
 lowered-spec =
     tie.close
-    (tie.spec enum-known-answer returns enum-told enum-told-2 returns-2 returns-3 returns-4)
+    (tie.spec enum-known-answer returns enum-told enum-known-answer-2 returns-2 returns-3 returns-4)
