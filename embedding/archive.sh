@@ -7,6 +7,9 @@ made=target/embedding
 mkdir -p $made
 rm -f $made/libmusseltwig.a
 crates=$(sed -n 's/^\(export_[a-z_]*\):.*/\1/p' crates.txt | grep -v '^export_answers$')
+# What they stand on first, on all cores: `rt staticlib` proves one crate after the other.
+below=$(for crate in $crates; do sed -n "s/^$crate: *//p" crates.txt; done | tr ' ' '\n' | sort -u)
+rt check $below >$made/below.log 2>&1 || { cat $made/below.log; exit 1; }
 echo "create $made/libmusseltwig.a" >$made/archive.mri
 for crate in $crates; do
     rt staticlib "$crate" >$made/"$crate".log 2>&1 || { cat $made/"$crate".log; exit 1; }

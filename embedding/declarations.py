@@ -147,7 +147,10 @@ def header(calls):
     lines += [f"#define {PREFIX.upper()}_{c.constant()} {c.answer}" for c in calls]
     for c in calls:
         parameters = [C_TYPES[t].format(name) for name, t in c.parameters + [ANSWER]]
-        lines += ["", *wrapped(c.does, " * ", "/* "), *wrapped(f"Answer: 0, {c.gives}", " * ")]
+        documented = wrapped(c.does, " * ", "/* ") + wrapped(f"Answer: 0, {c.gives}", " * ")
+        if len(documented) != 2:
+            sys.exit(f"calls.txt: {c.name} is documented in {len(documented)} lines, not two")
+        lines += ["", *documented]
         lines[-1] += " */"
         whole = [p.replace(" ", "~") for p in ", ".join(parameters).split(", ")]
         declared = textwrap.wrap(f"size_t {PREFIX}_{c.name}({', '.join(whole)});", 120, subsequent_indent="    ")

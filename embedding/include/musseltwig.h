@@ -94,8 +94,7 @@ extern "C" {
 size_t musseltwig_check_pack(const uint8_t *pack, size_t pack_length, uint64_t *answer, size_t answer_length);
 
 /* Checks a placement.
- * Answer: 0, the kind, n, r, s, k, b, F, the first row's place, lambda and c of five layers, how many nodes are out
- * of service, and these; in kind 6 then g and the feeder of each node. */
+ * Answer: 0, kind, n, r, s, k, b, F, first row's place, five lambda and c, nodes out of service; kind 6: g, feeders. */
 size_t musseltwig_check_placement(const uint8_t *placement, size_t placement_length, uint64_t *answer,
     size_t answer_length);
 
@@ -104,8 +103,7 @@ size_t musseltwig_check_placement(const uint8_t *placement, size_t placement_len
 size_t musseltwig_plan(const uint8_t *pack, size_t pack_length, uint64_t s, uint64_t k, uint64_t b, uint16_t *work,
     size_t work_length, uint8_t *out, size_t out_length, uint64_t *answer, size_t answer_length);
 
-/* Plans one of two operators alone, as many records as it is granted beside the other's wish; work and out as in
- * musseltwig_plan, with the grant as b.
+/* Plans one of two operators alone, b being what it is granted beside the other; work and out as in musseltwig_plan.
  * Answer: 0, the placement's length in out, F, and the counts of five layers. */
 size_t musseltwig_plan_operator(const uint8_t *pack, size_t pack_length, uint64_t s, uint64_t k, uint64_t wish,
     uint64_t other, uint16_t *work, size_t work_length, uint8_t *out, size_t out_length, uint64_t *answer,
@@ -121,8 +119,7 @@ size_t musseltwig_ask(const uint8_t *pack, size_t pack_length, uint64_t s, uint6
 size_t musseltwig_commit(const uint8_t *pack, size_t pack_length, uint64_t s, uint64_t k, uint64_t b,
     const uint64_t counts[5], uint8_t *out, size_t out_length, uint64_t *answer, size_t answer_length);
 
-/* Certifies a file of bare rows: writes the placement with these rows, all in the layer with the highest figure; out
- * as in musseltwig_plan.
+/* Certifies bare rows: writes their placement, all in the layer with the highest figure; out as in musseltwig_plan.
  * Answer: 0, the placement's length in out, F, and the counts of five layers: b in the layer taken, 0 in the others. */
 size_t musseltwig_certify(const uint8_t *rows, size_t rows_length, uint8_t *out, size_t out_length, uint64_t *answer,
     size_t answer_length);
@@ -132,8 +129,7 @@ size_t musseltwig_certify(const uint8_t *rows, size_t rows_length, uint8_t *out,
 size_t musseltwig_join_one(const uint8_t *first, size_t first_length, uint8_t *out, size_t out_length, uint64_t *answer,
     size_t answer_length);
 
-/* Joins two packs; the second's nodes come after the first's; out as in musseltwig_join_one. A place in a pack
- * counts from the first byte of the pack that is refused, the first that is not accepted.
+/* Joins two packs, the second's nodes last; a place is in the refused pack; out as in musseltwig_join_one.
  * Answer: 0, the joined pack's length in out. */
 size_t musseltwig_join_two(const uint8_t *first, size_t first_length, const uint8_t *second, size_t second_length,
     uint8_t *out, size_t out_length, uint64_t *answer, size_t answer_length);
@@ -158,10 +154,8 @@ size_t musseltwig_worst_case(const uint8_t *placement, size_t placement_length, 
 size_t musseltwig_rounds(const uint8_t *placement, size_t placement_length, uint64_t q, uint64_t *answer,
     size_t answer_length);
 
-/* Runs an outage log: event i is at times[i], of nodes[i], which goes down where downs[i] is not 0 and else comes
- * up; the three slices are equally long, else MUSSELTWIG_BAD_LENGTH.
- * Answer: 0, the lowest number of usable records and the first event after which it stood; for an empty log the
- * number alone. */
+/* Runs an outage log: event i is at times[i], of nodes[i], down where downs[i] is not 0; the three are equally long.
+ * Answer: 0, the lowest number of usable records and the first event after which it stood; of an empty log b alone. */
 size_t musseltwig_replay(const uint8_t *placement, size_t placement_length, const uint32_t *times, size_t times_length,
     const uint8_t *nodes, size_t nodes_length, const uint8_t *downs, size_t downs_length, uint64_t *answer,
     size_t answer_length);
@@ -171,8 +165,7 @@ size_t musseltwig_replay(const uint8_t *placement, size_t placement_length, cons
 size_t musseltwig_page(const uint8_t *placement, size_t placement_length, uint8_t *out, size_t out_length,
     uint64_t *answer, size_t answer_length);
 
-/* Writes the certificate line, `accepted F b k n most mean` or `refused number place`, and a newline; out has at
- * least 200 bytes.
+/* Writes the line `accepted F b k n most mean` or `refused number place`, and a newline; out has 200 bytes or more.
  * Answer: 0, the line's length in out. */
 size_t musseltwig_check_reply(const uint8_t *placement, size_t placement_length, uint8_t *out, size_t out_length,
     uint64_t *answer, size_t answer_length);

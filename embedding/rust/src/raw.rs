@@ -88,8 +88,8 @@ extern "C" {
     /// Checks a pack. Answer: 0, n, r, the first block's place, mu and m of five layers, how many nodes are out of
     /// service, and these.
     pub fn musseltwig_check_pack(pack: *const u8, pack_length: usize, answer: *mut u64, answer_length: usize) -> usize;
-    /// Checks a placement. Answer: 0, the kind, n, r, s, k, b, F, the first row's place, lambda and c of five
-    /// layers, how many nodes are out of service, and these; in kind 6 then g and the feeder of each node.
+    /// Checks a placement. Answer: 0, kind, n, r, s, k, b, F, first row's place, five lambda and c, nodes out of
+    /// service; kind 6: g, feeders.
     pub fn musseltwig_check_placement(
         placement: *const u8,
         placement_length: usize,
@@ -111,9 +111,8 @@ extern "C" {
         answer: *mut u64,
         answer_length: usize,
     ) -> usize;
-    /// Plans one of two operators alone, as many records as it is granted beside the other's wish; work and out as
-    /// in musseltwig_plan, with the grant as b. Answer: 0, the placement's length in out, F, and the counts of five
-    /// layers.
+    /// Plans one of two operators alone, b being what it is granted beside the other; work and out as in
+    /// musseltwig_plan. Answer: 0, the placement's length in out, F, and the counts of five layers.
     pub fn musseltwig_plan_operator(
         pack: *const u8,
         pack_length: usize,
@@ -155,9 +154,9 @@ extern "C" {
         answer: *mut u64,
         answer_length: usize,
     ) -> usize;
-    /// Certifies a file of bare rows: writes the placement with these rows, all in the layer with the highest
-    /// figure; out as in musseltwig_plan. Answer: 0, the placement's length in out, F, and the counts of five
-    /// layers: b in the layer taken, 0 in the others.
+    /// Certifies bare rows: writes their placement, all in the layer with the highest figure; out as in
+    /// musseltwig_plan. Answer: 0, the placement's length in out, F, and the counts of five layers: b in the layer
+    /// taken, 0 in the others.
     pub fn musseltwig_certify(
         rows: *const u8,
         rows_length: usize,
@@ -176,9 +175,8 @@ extern "C" {
         answer: *mut u64,
         answer_length: usize,
     ) -> usize;
-    /// Joins two packs; the second's nodes come after the first's; out as in musseltwig_join_one. A place in a pack
-    /// counts from the first byte of the pack that is refused, the first that is not accepted. Answer: 0, the joined
-    /// pack's length in out.
+    /// Joins two packs, the second's nodes last; a place is in the refused pack; out as in musseltwig_join_one.
+    /// Answer: 0, the joined pack's length in out.
     pub fn musseltwig_join_two(
         first: *const u8,
         first_length: usize,
@@ -230,9 +228,9 @@ extern "C" {
         answer: *mut u64,
         answer_length: usize,
     ) -> usize;
-    /// Runs an outage log: event i is at times[i], of nodes[i], which goes down where downs[i] is not 0 and else
-    /// comes up; the three slices are equally long, else BAD_LENGTH. Answer: 0, the lowest number of usable records
-    /// and the first event after which it stood; for an empty log the number alone.
+    /// Runs an outage log: event i is at times[i], of nodes[i], down where downs[i] is not 0; the three are equally
+    /// long. Answer: 0, the lowest number of usable records and the first event after which it stood; of an empty
+    /// log b alone.
     pub fn musseltwig_replay(
         placement: *const u8,
         placement_length: usize,
@@ -254,8 +252,8 @@ extern "C" {
         answer: *mut u64,
         answer_length: usize,
     ) -> usize;
-    /// Writes the certificate line, `accepted F b k n most mean` or `refused number place`, and a newline; out has
-    /// at least 200 bytes. Answer: 0, the line's length in out.
+    /// Writes the line `accepted F b k n most mean` or `refused number place`, and a newline; out has 200 bytes or
+    /// more. Answer: 0, the line's length in out.
     pub fn musseltwig_check_reply(
         placement: *const u8,
         placement_length: usize,
