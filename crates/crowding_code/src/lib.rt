@@ -33,7 +33,7 @@ fn few_pairs(rows: &[u8], c: usize, r: usize, x: usize, bound: usize) -> bool
     if x != 1 {
         return false;
     }
-    if c < 512 {
+    if c < 256 {
         return false;
     }
     crowding_pairs::most_pairs(rows, c, r) <= bound

@@ -1,6 +1,6 @@
 -- The cells of a table while pairs are counted in it. Assumes nothing.
 use Prim.Native.Nat.{ℕ, _+_, _*_, _-_, _≤_, _<_}
-use native.Mathlib.Nat.{add-assoc, add-zero}
+use native.Mathlib.Nat.{add-assoc, add-zero, mul-le-mul}
 use native.Mathlib.Numerals.{add-one}
 use native.Mathlib.Omega.{arith}
 use mathlib.Core.Path.{_≡_, refl, sym, _∙_}
@@ -11,17 +11,22 @@ use lib.ListN.{length, getD, take, drop, set, length-set, length-drop, drop-of-l
 use lib.Seq.{take-suc, take-all, getD-set-same, getD-set-other, length-take-le}
 use borrow.Author.Tests.{eqb-true, eqb-false}
 use Rattle.lists.specs.Lists.{tally, count}
-use Rattle.lists.proofs.Arith.{run-end-le}
-use Rattle.lists.proofs.Alls.{all-drop}
 use Rattle.lists.proofs.Parts.{drop-next}
 use Rattle.lists.proofs.Writing.{take-drop-rest}
 use Rattle.lists.proofs.Counts.{count-append, count-le-length}
 use Rattle.crowding.specs.Chains.{AtMost}
-use Rattle.crowding_pairs.specs.Codes.{withLow, coded, Room, Raised}
+use Rattle.crowding_pairs.specs.Codes.{pairNumber, pairCells, withLow, coded, Room, Raised}
 
--- the cell of a pair is in the table
-pub cell-fits : (stride v low cells : ℕ) → v < stride → low < stride → stride * stride ≤ cells → v * stride + low < cells
-cell-fits stride v low cells h l fits = omega (arith, run-end-le stride h)
+-- twice the first number of a byte's pairs
+pub triangle-le : (v : ℕ) → v < 256 → v * (v + 1) ≤ 65280
+triangle-le v h =
+    let byte : v ≤ 255 = omega arith in
+    let above : v + 1 ≤ 256 = omega arith in
+    mul-le-mul byte above
+
+-- two bytes have a cell
+pub pair-fits : (v low : ℕ) → v < 256 → low < 256 → pairNumber v low < pairCells
+pair-fits v low h l = omega (arith, triangle-le v h)
 
 -- one cell is raised by one
 pub raised-one : (table : List ℕ) (q : ℕ) → q < length table → Raised (λ p. tally (eqb p q) 0) table (set table q (getD table q 0 + 1))
@@ -34,71 +39,71 @@ raised-one table q fits = record { same = length-set table q (getD table q 0 + 1
     go p false e = rw (e, getD-set-other table q p (getD table q 0 + 1) 0 (eqb-false p q e)) (omega arith)
 
 -- the pairs of `low` and the nodes before i are counted
-pub record After (stride low : ℕ) (nodes table₀ table : List ℕ) (i : ℕ) : Type 0 where
+pub record After (low : ℕ) (nodes table₀ table : List ℕ) (i : ℕ) : Type 0 where
   pub within : i ≤ length nodes
   pub same : length table ≡ length table₀
-  pub cell : (p : ℕ) → getD table p 0 ≡ getD table₀ p 0 + withLow stride p low (take i nodes)
+  pub cell : (p : ℕ) → getD table p 0 ≡ getD table₀ p 0 + withLow p low (take i nodes)
 
-pub after-start : {stride low : ℕ} {nodes table : List ℕ} → After stride low nodes table table 0
+pub after-start : {low : ℕ} {nodes table : List ℕ} → After low nodes table table 0
 unfolding count
 after-start {table = table} = record { within = omega arith; same = refl; cell = λ p. omega arith }
 
-module _ {stride low : ℕ} {nodes table₀ table : List ℕ} {i : ℕ} (a : After stride low nodes table₀ table i) (h : i < length nodes) where
+module _ {low : ℕ} {nodes table₀ table : List ℕ} {i : ℕ} (a : After low nodes table₀ table i) (h : i < length nodes) where
   -- one pair more
-  next-cell : let q = getD nodes i 0 * stride + low in
+  next-cell : let q = pairNumber (getD nodes i 0) low in
       q < length table → (p : ℕ)
-      → getD (set table q (getD table q 0 + 1)) p 0 ≡ getD table₀ p 0 + withLow stride p low (take (i + 1) nodes)
+      → getD (set table q (getD table q 0 + 1)) p 0 ≡ getD table₀ p 0 + withLow p low (take (i + 1) nodes)
   unfolding count
   next-cell fits p =
-      let q = getD nodes i 0 * stride + low in
+      let q = pairNumber (getD nodes i 0) low in
       rw (
         add-one i,
         take-suc nodes i 0 h,
-        count-append (λ v. eqb p (v * stride + low)) (take i nodes) (getD nodes i 0 ∷ []),
-        ← add-assoc (getD table₀ p 0) (withLow stride p low (take i nodes)) (tally (eqb p q) 0),
+        count-append (λ v. eqb p (pairNumber v low)) (take i nodes) (getD nodes i 0 ∷ []),
+        ← add-assoc (getD table₀ p 0) (withLow p low (take i nodes)) (tally (eqb p q) 0),
         ← a .cell p,
       )
       (raised-one table q fits .cell p)
 
-  pub after-next : let q = getD nodes i 0 * stride + low in
-      q < length table → After stride low nodes table₀ (set table q (getD table q 0 + 1)) (i + 1)
+  pub after-next : let q = pairNumber (getD nodes i 0) low in
+      q < length table → After low nodes table₀ (set table q (getD table q 0 + 1)) (i + 1)
   after-next fits = record {
     within = omega arith;
-    same = length-set table (getD nodes i 0 * stride + low) (getD table (getD nodes i 0 * stride + low) 0 + 1) ∙ a .same;
+    same = length-set table (pairNumber (getD nodes i 0) low) (getD table (pairNumber (getD nodes i 0) low) 0 + 1) ∙ a .same;
     cell = next-cell fits;
   }
 
   -- no cell passes 16 bits
-  pub after-small : Room stride 65000 nodes table₀ → (p : ℕ) → getD table p 0 < 65535
-  after-small room p =
+  pub after-small : Room 65000 nodes table₀ → (p n : ℕ) → n ≤ 500 → getD table p 0 + n < 65536
+  after-small room p n few =
       omega (
         arith,
         a .cell p,
         room .few p,
         room .short,
-        count-le-length (λ v. eqb p (v * stride + low)) (take i nodes),
+        count-le-length (λ v. eqb p (pairNumber v low)) (take i nodes),
         length-take-le i nodes (a .within),
       )
 
-pub after-all : {stride low : ℕ} {nodes table₀ table : List ℕ} {i : ℕ} → After stride low nodes table₀ table i → length nodes ≤ i
-    → Raised (λ p. withLow stride p low nodes) table₀ table
+pub after-all : {low : ℕ} {nodes table₀ table : List ℕ} {i : ℕ} → After low nodes table₀ table i → length nodes ≤ i
+    → Raised (λ p. withLow p low nodes) table₀ table
 after-all {nodes = nodes} {i = i} a h = record { same = a .same; cell = rw (take-all i nodes h) at (a .cell) }
 
-coded-cons : (stride p v : ℕ) (row : List ℕ) → coded stride p (v ∷ row) ≡ withLow stride p v row + coded stride p row
+coded-cons : (p v : ℕ) (row : List ℕ) → coded p (v ∷ row) ≡ withLow p v row + coded p row
 unfolding coded
-coded-cons stride p v row = refl
+coded-cons p v row = refl
 
 -- the pairs of a row whose first node is before k are counted
-pub record Part (stride : ℕ) (row table₀ table : List ℕ) (k : ℕ) : Type 0 where
+pub record Part (row table₀ table : List ℕ) (k : ℕ) : Type 0 where
   pub within : k ≤ length row
   pub same : length table ≡ length table₀
-  pub cell : (p : ℕ) → getD table p 0 + coded stride p (drop k row) ≡ getD table₀ p 0 + coded stride p row
+  pub cell : (p : ℕ) → getD table p 0 + coded p (drop k row) ≡ getD table₀ p 0 + coded p row
   pub few : AtMost (60000 + 5 * k) table
 
-pub part-start : {stride : ℕ} {row table : List ℕ} → Room stride 60000 row table → Part stride row table table 0
+pub part-start : {row table : List ℕ} → Room 60000 row table → Part row table table 0
 part-start room = record { within = omega arith; same = refl; cell = λ p. refl; few = λ p. omega (arith, room .few p) }
 
-module _ {stride : ℕ} {row table₀ table : List ℕ} {k : ℕ} (part : Part stride row table₀ table k) (h : k < length row) where
+module _ {row table₀ table : List ℕ} {k : ℕ} (part : Part row table₀ table k) (h : k < length row) where
   -- the nodes after place k
   abbrev rest : List ℕ
   rest = take (length row - (k + 1)) (drop (k + 1) row)
@@ -109,37 +114,35 @@ module _ {stride : ℕ} {row table₀ table : List ℕ} {k : ℕ} (part : Part s
   rest-short : length row ≤ 5 → length rest ≤ 5
   rest-short five = rw rest-is (simp length-drop (omega arith))
 
-  pub part-room : Room stride 60000 row table₀ → Room stride 65000 rest table
+  pub part-room : Room 60000 row table₀ → Room 65000 rest table
   part-room room = record {
     short = rest-short (room .short);
-    below = rw rest-is (all-drop (λ v. v < stride) (k + 1) row (room .below));
-    bytes = room .bytes;
     cells = rw (part .same) (room .cells);
     few = λ p. omega (arith, part .few p, room .short);
   }
 
-  pub part-next : {table′ : List ℕ} → length row ≤ 5 → Raised (λ p. withLow stride p (getD row k 0) rest) table table′
-      → Part stride row table₀ table′ (k + 1)
+  pub part-next : {table′ : List ℕ} → length row ≤ 5 → Raised (λ p. withLow p (getD row k 0) rest) table table′
+      → Part row table₀ table′ (k + 1)
   part-next {table′} five r = record {
     within = omega arith;
     same = r .same ∙ part .same;
     cell = λ p.
-        let split : coded stride p (drop k row) ≡ withLow stride p (getD row k 0) rest + coded stride p (drop (k + 1) row) =
-        rw (drop-next row k 0 h, rest-is) (coded-cons stride p (getD row k 0) (drop (k + 1) row)) in
+        let split : coded p (drop k row) ≡ withLow p (getD row k 0) rest + coded p (drop (k + 1) row) =
+        rw (drop-next row k 0 h, rest-is) (coded-cons p (getD row k 0) (drop (k + 1) row)) in
         omega (arith, r .cell p, part .cell p, split);
     few = λ p. omega (
       arith,
       r .cell p,
       part .few p,
-      count-le-length (λ v. eqb p (v * stride + getD row k 0)) rest,
+      count-le-length (λ v. eqb p (pairNumber v (getD row k 0))) rest,
       rest-short five,
     );
   }
 
-pub part-all : {stride : ℕ} {row table₀ table : List ℕ} {k : ℕ} → Part stride row table₀ table k → length row ≤ k
-    → Raised (λ p. coded stride p row) table₀ table
+pub part-all : {row table₀ table : List ℕ} {k : ℕ} → Part row table₀ table k → length row ≤ k
+    → Raised (λ p. coded p row) table₀ table
 unfolding coded
-part-all {stride} {row} {table₀} {table} {k} part h = record {
+part-all {row} {table₀} {table} {k} part h = record {
   same = part .same;
   cell = λ p. sym (add-zero (getD table p 0)) ∙ rw (drop-of-length-le row h) at (part .cell p);
 }

@@ -1,6 +1,6 @@
 -- What the counts of pairs say: rows that hold two nodes have their number, and where no number comes too often no row is crowded.
 -- Assumes nothing.
-use Prim.Native.Nat.{ℕ, suc, _+_, _*_, _≤_, _<_}
+use Prim.Native.Nat.{ℕ, suc, _+_, _≤_, _<_}
 use native.Mathlib.Omega.{arith}
 use mathlib.Core.Path.{_≡_, refl, sym, ap, _∙_}
 use mathlib.Core.Logic.{_⊎_, inl, inr, ⊎-elim}
@@ -20,7 +20,8 @@ use Rattle.lists.proofs.UpTo.{getD-map-upTo}
 use Rattle.packing.specs.Rows.{ascending, member, holds, together, subsets, SetIn, crowded, firstCrowded}
 use Rattle.packing.proofs.Members.{member-cases, member-here, member-later, member-of-holds, distinct-head, ascending-tail, ascending-distinct, le-of-member}
 use Rattle.packing.proofs.Sets.{subsets-in, together-same}
-use Rattle.crowding_pairs.specs.Codes.{withLow, coded, codedRows, mostCoded, fewPairs}
+use Rattle.crowding_pairs.proofs.Cells.{pair-fits}
+use Rattle.crowding_pairs.specs.Codes.{pairNumber, pairCells, withLow, coded, codedRows, mostCoded, fewPairs}
 
 -- what holds of all nodes holds of a member
 member-all : (P : ℕ → Type 0) (v : ℕ) (nodes : List ℕ) → All P nodes → T (member v nodes) → P v
@@ -42,57 +43,55 @@ count-member f v (w ∷ nodes) e m = go (f w) refl (member-cases v w nodes m) (c
     go false q (inr n) ih = rw q (ih n)
 
 -- a row that holds two nodes has their number
-has-pair : (stride u v lo : ℕ) (row : List ℕ) → u < v → T (ascending lo row) → T (member u row) → T (member v row)
-    → 1 ≤ coded stride (v * stride + u) row
+has-pair : (u v lo : ℕ) (row : List ℕ) → u < v → T (ascending lo row) → T (member u row) → T (member v row)
+    → 1 ≤ coded (pairNumber v u) row
 unfolding coded member
-has-pair stride u v lo [] lt a mu mv = absurd mu
-has-pair stride u v lo (w ∷ row) lt a mu mv =
+has-pair u v lo [] lt a mu mv = absurd mu
+has-pair u v lo (w ∷ row) lt a mu mv =
     let later = ascending-tail lo w row a in
-    go later (member-cases u w row mu) (member-cases v w row mv) (has-pair stride u v (suc w) row lt later)
+    go later (member-cases u w row mu) (member-cases v w row mv) (has-pair u v (suc w) row lt later)
   where
     p : ℕ
-    p = v * stride + u
+    p = pairNumber v u
 
     go : T (ascending (suc w) row) → (u ≡ w) ⊎ T (member u row) → (v ≡ w) ⊎ T (member v row)
-        → (T (member u row) → T (member v row) → 1 ≤ coded stride p row) → 1 ≤ withLow stride p w row + coded stride p row
+        → (T (member u row) → T (member v row) → 1 ≤ coded p row) → 1 ≤ withLow p w row + coded p row
     go later (inl e) (inl f) ih = absurd (omega arith)
     go later (inl e) (inr n) ih =
-        omega (arith, count-member (λ x. eqb p (x * stride + w)) v row (eq-eqb p (v * stride + w) (omega arith)) n)
+        omega (arith, count-member (λ x. eqb p (pairNumber x w)) v row (eq-eqb p (pairNumber v w) (omega arith)) n)
     go later (inr m) (inl f) ih = absurd (omega (arith, le-of-member (suc w) row later u m))
     go later (inr m) (inr n) ih = omega (arith, ih m n)
 
 -- so there are at most as many such rows as the number comes
-held-coded : (stride u v : ℕ) (rows : List (List ℕ)) → u < v → All (λ row. T (ascending 0 row)) rows
-    → together rows (u ∷ v ∷ []) ≤ codedRows stride (v * stride + u) rows
+held-coded : (u v : ℕ) (rows : List (List ℕ)) → u < v → All (λ row. T (ascending 0 row)) rows
+    → together rows (u ∷ v ∷ []) ≤ codedRows (pairNumber v u) rows
 unfolding together count total holds every
-held-coded stride u v [] lt a = omega arith
-held-coded stride u v (row ∷ rows) lt a =
-    go (holds row (u ∷ v ∷ [])) refl (held-coded stride u v rows lt (a .1))
+held-coded u v [] lt a = omega arith
+held-coded u v (row ∷ rows) lt a =
+    go (holds row (u ∷ v ∷ [])) refl (held-coded u v rows lt (a .1))
   where
     p : ℕ
-    p = v * stride + u
+    p = pairNumber v u
 
-    pair : T (member u row && (member v row && true)) → 1 ≤ coded stride p row
+    pair : T (member u row && (member v row && true)) → 1 ≤ coded p row
     pair t =
-        has-pair stride u v 0 row lt (a .0) (and-left (member u row) (member v row && true) t)
+        has-pair u v 0 row lt (a .0) (and-left (member u row) (member v row && true) t)
         (and-left (member v row) true (and-right (member u row) (member v row && true) t))
 
-    go : (b : Bool) → holds row (u ∷ v ∷ []) ≡ b → together rows (u ∷ v ∷ []) ≤ codedRows stride p rows
-        → tally (holds row (u ∷ v ∷ [])) (together rows (u ∷ v ∷ [])) ≤ coded stride p row + codedRows stride p rows
+    go : (b : Bool) → holds row (u ∷ v ∷ []) ≡ b → together rows (u ∷ v ∷ []) ≤ codedRows p rows
+        → tally (holds row (u ∷ v ∷ [])) (together rows (u ∷ v ∷ [])) ≤ coded p row + codedRows p rows
     go true e ih = rw e (omega (arith, ih, pair (T-true e)))
     go false e ih = rw e (omega (arith, ih))
 
 module _ (rows : List (List ℕ)) (up : All (λ row. T (ascending 0 row)) rows) where
-  -- the number of two bytes is below 65,536
-  pair-le : (u v bound : ℕ) → u < v → v < 256 → mostCoded 256 rows ≤ bound → together rows (u ∷ v ∷ []) ≤ bound
+  pair-le : (u v bound : ℕ) → u < v → v < 256 → mostCoded rows ≤ bound → together rows (u ∷ v ∷ []) ≤ bound
   pair-le u v bound lt byte few =
-      let p : ℕ = v * 256 + u in
       omega (
         arith,
         few,
-        held-coded 256 u v rows lt up,
-        largest-le (map (λ q. codedRows 256 q rows) (upTo 65536)) (v * 256 + u),
-        getD-map-upTo (λ q. codedRows 256 q rows) 65536 (v * 256 + u) 0 (omega arith),
+        held-coded u v rows lt up,
+        largest-le (map (λ q. codedRows q rows) (upTo pairCells)) (pairNumber v u),
+        getD-map-upTo (λ q. codedRows q rows) pairCells (pairNumber v u) 0 (pair-fits v u byte (omega arith)),
       )
 
   swapped : (a b v : ℕ) → member v (a ∷ b ∷ []) ≡ member v (b ∷ a ∷ [])
@@ -106,12 +105,12 @@ module _ (rows : List (List ℕ)) (up : All (λ row. T (ascending 0 row)) rows) 
       go false false = refl
 
   -- a set of two bytes stands in at most `bound` rows
-  set-le : (a b bound : ℕ) → (a ≡ b → ⊥) → a < 256 → b < 256 → mostCoded 256 rows ≤ bound → together rows (a ∷ b ∷ []) ≤ bound
+  set-le : (a b bound : ℕ) → (a ≡ b → ⊥) → a < 256 → b < 256 → mostCoded rows ≤ bound → together rows (a ∷ b ∷ []) ≤ bound
   set-le a b bound apart la lb few =
       ⊎-elim (λ le. pair-le a b bound (omega (arith, apart)) lb few)
       (λ gt. rw (together-same rows (a ∷ b ∷ []) (b ∷ a ∷ []) (swapped a b)) (pair-le b a bound gt la few)) (le-or-lt a b)
 
-  quiet-set : (bound : ℕ) (row s : List ℕ) → All (λ v. v < 256) row → mostCoded 256 rows ≤ bound → SetIn 2 row s
+  quiet-set : (bound : ℕ) (row s : List ℕ) → All (λ v. v < 256) row → mostCoded rows ≤ bound → SetIn 2 row s
       → together rows s ≤ bound
   unfolding member
   quiet-set bound row [] bytes few set = absurd (omega (arith, set .size))
@@ -123,7 +122,7 @@ module _ (rows : List (List ℕ)) (up : All (λ row. T (ascending 0 row)) rows) 
       (member-all (λ v. v < 256) b row bytes (inside b (member-later b a (b ∷ []) (member-here b b [] refl)))) few
   quiet-set bound row (a ∷ (b ∷ (d ∷ s))) bytes few set = absurd (omega (arith, set .size))
 
-  none-of-pairs : (bound : ℕ) → All (All (λ v. v < 256)) rows → mostCoded 256 rows ≤ bound → firstCrowded 1 bound rows ≡ none
+  none-of-pairs : (bound : ℕ) → All (All (λ v. v < 256)) rows → mostCoded rows ≤ bound → firstCrowded 1 bound rows ≡ none
   unfolding firstCrowded crowded
   none-of-pairs bound bytes few =
       firstWhere-none (crowded 1 bound rows) rows
@@ -138,8 +137,8 @@ module _ (rows : List (List ℕ)) (up : All (λ row. T (ascending 0 row)) rows) 
   pub first-none-of-pairs : (x bound : ℕ) → All (All (λ v. v < 256)) rows → T (fewPairs x bound rows)
       → firstCrowded x bound rows ≡ none
   first-none-of-pairs x bound bytes t =
-      let many = and-right (eqb x 1) (leb 512 (length rows) && leb (mostCoded 256 rows) bound) t in
-      let few = and-right (leb 512 (length rows)) (leb (mostCoded 256 rows) bound) many in
-      let two = and-left (eqb x 1) (leb 512 (length rows) && leb (mostCoded 256 rows) bound) t in
+      let many = and-right (eqb x 1) (leb 256 (length rows) && leb (mostCoded rows) bound) t in
+      let few = and-right (leb 256 (length rows)) (leb (mostCoded rows) bound) many in
+      let two = and-left (eqb x 1) (leb 256 (length rows) && leb (mostCoded rows) bound) t in
       rw (eqb-true x 1 (true-T (eqb x 1) two))
-      (none-of-pairs bound bytes (leb-true (mostCoded 256 rows) bound (true-T (leb (mostCoded 256 rows) bound) few)))
+      (none-of-pairs bound bytes (leb-true (mostCoded rows) bound (true-T (leb (mostCoded rows) bound) few)))

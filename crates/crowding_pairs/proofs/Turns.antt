@@ -9,24 +9,23 @@ use lib.ListN.{length, getD, take, drop, length-take}
 use lib.Seq.{take-all}
 use Rattle.lists.specs.Lists.{total, largest, upTo}
 use Rattle.lists.proofs.Arith.{run-end-le}
-use Rattle.lists.proofs.Alls.{all-take, all-drop}
 use Rattle.lists.proofs.Counts.{count-le-length, total-append}
 use Rattle.lists.proofs.UpTo.{take-map-upTo}
 use Rattle.packing.specs.Rows.{rowsAt}
 use Rattle.packing.proofs.RowsAt.{rowsAt-add}
 use Rattle.crowding.specs.Chains.{AtMost}
-use Rattle.crowding_pairs.specs.Codes.{coded, Room, Raised, RowsFit, RowsRoom}
+use Rattle.crowding_pairs.specs.Codes.{pairNumber, coded, Room, Raised, RowsFit, RowsRoom}
 
 -- how many pairs n nodes have
 unfoldable pairsOf : ℕ → ℕ
 pairsOf zero = 0
 pairsOf (suc n) = n + pairsOf n
 
-coded-le : (stride p : ℕ) (row : List ℕ) → coded stride p row ≤ pairsOf (length row)
+coded-le : (p : ℕ) (row : List ℕ) → coded p row ≤ pairsOf (length row)
 unfolding coded pairsOf
-coded-le stride p [] = omega arith
-coded-le stride p (v ∷ row) =
-    omega (arith, count-le-length (λ u. eqb p (u * stride + v)) row, coded-le stride p row)
+coded-le p [] = omega arith
+coded-le p (v ∷ row) =
+    omega (arith, count-le-length (λ u. eqb p (pairNumber u v)) row, coded-le p row)
 
 pairs-ten : (n : ℕ) → n ≤ 5 → pairsOf n ≤ 10
 unfolding pairsOf
@@ -38,8 +37,8 @@ pairs-ten (suc (suc (suc (suc zero)))) h = omega arith
 pairs-ten (suc (suc (suc (suc (suc zero))))) h = omega arith
 pairs-ten (suc (suc (suc (suc (suc (suc n)))))) h = absurd (omega arith)
 
-pub coded-ten : (stride p : ℕ) (row : List ℕ) → length row ≤ 5 → coded stride p row ≤ 10
-coded-ten stride p row h = omega (arith, coded-le stride p row, pairs-ten (length row) h)
+pub coded-ten : (p : ℕ) (row : List ℕ) → length row ≤ 5 → coded p row ≤ 10
+coded-ten p row h = omega (arith, coded-le p row, pairs-ten (length row) h)
 
 -- a row more
 total-next : (f : List ℕ → ℕ) (r i : ℕ) (rows : List ℕ)
@@ -104,12 +103,10 @@ turns-all {c = c} {i = i} t h =
     record { same = t .same; cell = rw all at (t .cell) }
 
 -- the table of pairs has room for a row more
-pub turn-room : {rows : List ℕ} {c r stride : ℕ} {table₀ table : List ℕ} {i at : ℕ} → Turns (coded stride) rows c r table₀ table i at
-    → RowsRoom rows c r stride table₀ → i < c → Room stride 60000 (take (at + r - at) (drop at rows)) table
-turn-room {rows} {r = r} {stride} {at = at} t room h = record {
+pub turn-room : {rows : List ℕ} {c r : ℕ} {table₀ table : List ℕ} {i at : ℕ} → Turns coded rows c r table₀ table i at
+    → RowsRoom rows c r table₀ → i < c → Room 60000 (take (at + r - at) (drop at rows)) table
+turn-room t room h = record {
   short = bytes-five t (room .fit) h;
-  below = all-take (λ v. v < stride) (at + r - at) (drop at rows) (all-drop (λ v. v < stride) at rows (room .empty .below));
-  bytes = room .empty .bytes;
   cells = rw (t .same) (room .empty .cells);
   few = turn-few t (room .fit) h;
 }

@@ -8,42 +8,42 @@ ghost use Rattle.packing.specs.Rows.{rowsAt};
 ghost use Rattle.crowding_pairs.specs.Codes.{RowsRoom, RowsFit, Raised, codedRows, mostCoded};
 
 // Counts the pairs of the nodes of each of the c rows.
-fn count_rows(rows: &[u8], c: usize, r: usize, stride: usize, table: &mut [u16])
-    requires { ⌜ RowsRoom (now rows) c r stride (now table) ⌝ }
-    ensures { λ _. ⌜ Raised (λ p. codedRows stride p (rowsAt r c (now (rows .entry)))) (now (table .entry)) (now (table .exit)) ⌝ }
+fn count_rows(rows: &[u8], c: usize, r: usize, table: &mut [u16])
+    requires { ⌜ RowsRoom (now rows) c r (now table) ⌝ }
+    ensures { λ _. ⌜ Raised (λ p. codedRows p (rowsAt r c (now (rows .entry)))) (now (table .entry)) (now (table .exit)) ⌝ }
 {
     let mut i: usize = 0;
     let mut at: usize = 0;
     while i < c {
         let end = at + r;
-        count_row(&rows[at..end], stride, table);
+        count_row(&rows[at..end], table);
         at = end;
         i += 1;
     }
 }
 
 // The same. For a length that is written as a number the compiler lays out the whole row.
-fn count_all(rows: &[u8], c: usize, r: usize, stride: usize, table: &mut [u16])
-    requires { ⌜ RowsRoom (now rows) c r stride (now table) ⌝ }
-    ensures { λ _. ⌜ Raised (λ p. codedRows stride p (rowsAt r c (now (rows .entry)))) (now (table .entry)) (now (table .exit)) ⌝ }
+fn count_all(rows: &[u8], c: usize, r: usize, table: &mut [u16])
+    requires { ⌜ RowsRoom (now rows) c r (now table) ⌝ }
+    ensures { λ _. ⌜ Raised (λ p. codedRows p (rowsAt r c (now (rows .entry)))) (now (table .entry)) (now (table .exit)) ⌝ }
 {
     if r == 5 {
-        count_rows(rows, c, 5, stride, table);
+        count_rows(rows, c, 5, table);
         return;
     }
     if r == 4 {
-        count_rows(rows, c, 4, stride, table);
+        count_rows(rows, c, 4, table);
         return;
     }
     if r == 3 {
-        count_rows(rows, c, 3, stride, table);
+        count_rows(rows, c, 3, table);
         return;
     }
     if r == 2 {
-        count_rows(rows, c, 2, stride, table);
+        count_rows(rows, c, 2, table);
         return;
     }
-    count_rows(rows, c, r, stride, table);
+    count_rows(rows, c, r, table);
 }
 
 // `minmax::larger` on 16 bits, many of which are compared at once.
@@ -66,12 +66,13 @@ pub fn most_of(table: &[u16]) -> u16
     most
 }
 
-// The largest number of the c rows of r bytes that have one pair of nodes.
+// The largest number of the c rows of r bytes that have one pair of nodes. The table is cleared and searched whole,
+// so it is a triangle and not a square.
 pub fn most_pairs(rows: &[u8], c: usize, r: usize) -> usize
     requires { ⌜ RowsFit (now rows) c r ⌝ }
-    ensures { λ most. ⌜ most ≡ mostCoded 256 (rowsAt r c (now (rows .entry))) ⌝ }
+    ensures { λ most. ⌜ most ≡ mostCoded (rowsAt r c (now (rows .entry))) ⌝ }
 {
-    let mut table = [0u16; 65536];
-    count_all(rows, c, r, 256, &mut table);
+    let mut table = [0u16; 32896];
+    count_all(rows, c, r, &mut table);
     most_of(&table) as usize
 }

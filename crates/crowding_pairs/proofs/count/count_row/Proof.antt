@@ -1,34 +1,22 @@
 -- `crowding_pairs::count::count_row` meets its contract. The loop's invariant: the pairs whose first node is before place k are
 -- counted. Assumes nothing.
-use Prim.Native.Nat.{_-_, _<_}
+use Prim.Native.Nat.{_-_}
 use native.Mathlib.Omega.{arith}
-use lib.ListN.{length, getD}
+use lib.ListN.{length}
 use borrow.Author.Needs.{needs}
-use Rattle.lists.proofs.Alls.{all-getD}
 use Rattle.crowding_pairs.proofs.Cells.{Part, part-start, part-room, part-next, part-all}
 use Rattle.crowding_pairs.proofs.count.count_row.Statement.{statement}
 use Rattle.crowding_pairs.proofs.count.count_row.Tie as tie
 
 abbrev Inv-loop : tie.InvT-loop
-Inv-loop row stride table₀ k₀ table k = Part stride row table₀ table k
+Inv-loop row table₀ k₀ table k = Part row table₀ table k
 
 abbrev μ-loop : tie.MeasureT-loop
-μ-loop row stride table₀ k₀ table k = length row - k
+μ-loop row table₀ k₀ table k = length row - k
 
 -- what the call was given
 abbrev start : tie.In-loop Inv-loop μ-loop → tie.Start Inv-loop μ-loop
 start c = c .before .before .before .before
-
--- the node at place k
-low : (c : tie.In-loop Inv-loop μ-loop)
-    → let a = start c .args in
-    (getD (a .row .now) (c .before .loop .k) 0 < a .stride) × (getD (a .row .now) (c .before .loop .k) 0 < 256)
-low c =
-    let s = start c in
-    let a = s .args in
-    let lt : getD (a .row .now) (c .before .loop .k) 0 < a .stride =
-    all-getD (λ v. v < a .stride) (a .row .now) (c .before .loop .k) 0 (s .pre .below) (c .loop-test .taken) in
-    (lt, omega (arith, lt, s .pre .bytes))
 
 loop-holds : tie.Need-loop-holds Inv-loop μ-loop
 loop-holds c = part-start (c .before .before .pre)
@@ -37,7 +25,7 @@ shared-slice-read-low : tie.Need-shared-slice-read-low Inv-loop μ-loop
 shared-slice-read-low c = search needs
 
 cast-low : tie.Need-cast-low Inv-loop μ-loop
-cast-low c = omega (arith, low (c .before))
+cast-low c = omega (arith, c .shared-slice-known2 .given (c .before .before .loop .k))
 
 add-from : tie.Need-add-from Inv-loop μ-loop
 add-from c = omega arith
@@ -54,7 +42,8 @@ part-count-after-end c = search needs
 count-after-requires : tie.Need-count-after-requires Inv-loop μ-loop
 count-after-requires c κs =
     let t = c .before .before .before in
-    (part-room (t .before .loop .inv) (t .loop-test .taken) (start t .pre), low t .0)
+    let byte = c .before .before .shared-slice-known2 .given (t .before .loop .k) .fits in
+    (part-room (t .before .loop .inv) (t .loop-test .taken) (start t .pre), byte)
 
 loop-less : tie.Need-loop-less Inv-loop μ-loop
 loop-less c = omega arith

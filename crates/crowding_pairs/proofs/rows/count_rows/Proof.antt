@@ -8,10 +8,10 @@ use Rattle.crowding_pairs.proofs.rows.count_rows.Statement.{statement}
 use Rattle.crowding_pairs.proofs.rows.count_rows.Tie as tie
 
 abbrev Inv-loop : tie.InvT-loop
-Inv-loop rows c r stride table₀ i₀ at₀ table i at = Turns (coded stride) rows c r table₀ table i at
+Inv-loop rows c r table₀ i₀ at₀ table i at = Turns coded rows c r table₀ table i at
 
 abbrev μ-loop : tie.MeasureT-loop
-μ-loop rows c r stride table₀ i₀ at₀ table i at = c - i
+μ-loop rows c r table₀ i₀ at₀ table i at = c - i
 
 -- what the call was given
 abbrev start : tie.In-loop Inv-loop μ-loop → tie.Start Inv-loop μ-loop
@@ -48,7 +48,7 @@ loop-again c =
     let t = c .before .before .before .before .before in
     let turn = t .before .loop .inv in
     let fit = start t .pre .fit in
-    turn-next turn fit (t .loop-test .taken) (λ p. coded-ten (start t .args .stride) p _ (bytes-five turn fit (t .loop-test .taken)))
+    turn-next turn fit (t .loop-test .taken) (λ p. coded-ten p _ (bytes-five turn fit (t .loop-test .taken)))
     (c .before .before .count-row .ensures)
 
 same-length : tie.Need-same-length Inv-loop μ-loop

@@ -1,10 +1,9 @@
 -- `crowding_pairs::rows::most_pairs` meets its contract: the largest cell of a table that was all zeros. Assumes nothing.
-use Prim.Native.Nat.{ℕ, _<_}
+use Prim.Native.Nat.{ℕ}
 use native.Mathlib.Omega.{arith}
 use mathlib.Core.Path.{_∙_}
 use lib.ListN.{length-replicate}
 use borrow.Author.Needs.{needs}
-use Rattle.lists.proofs.Alls.{getD-all}
 use Rattle.packing.specs.Rows.{rowsAt}
 use Rattle.crowding.proofs.Follow.{at-most-zero}
 use Rattle.crowding_pairs.specs.Codes.{codedRows}
@@ -21,10 +20,8 @@ count-all-requires c κs =
     record {
       fit = s .pre;
       empty = record {
-        below = getD-all (λ v. v < 256) 0 (s .args .rows .now) (λ i lt. c .before .shared-slice-known .given i .fits);
-        bytes = omega arith;
         cells = search needs;
-        none = at-most-zero 65536;
+        none = at-most-zero 32896;
       };
     }
 
@@ -42,8 +39,8 @@ returns c =
     let a = c .before .before .before .before .before .before .args in
     let counted = c .before .before .before .count-all in
     c .most-of .ensures
-    ∙ most-is (λ p. codedRows 256 p (rowsAt (a .r) (a .c) (a .rows .now))) 65536 (counted .last .1 .1 .1 .1 .0) (counted .ensures .same ∙ length-replicate {A = ℕ} 65536 0)
-    (λ p. omega (arith, counted .ensures .cell p, at-most-zero 65536 p))
+    ∙ most-is (λ p. codedRows p (rowsAt (a .r) (a .c) (a .rows .now))) 32896 (counted .last .1 .1 .1 .0) (counted .ensures .same ∙ length-replicate {A = ℕ} 32896 0)
+    (λ p. omega (arith, counted .ensures .cell p, at-most-zero 32896 p))
 
 pub most-pairs-spec : {M : Type 1} → statement M
 most-pairs-spec =
