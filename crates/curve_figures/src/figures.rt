@@ -6,13 +6,24 @@ use minmax::smaller;
 use placement::Order;
 use placement::Rule;
 ghost use mathlib.Core.Path.{_≡_};
-ghost use Prim.Native.Nat.{_+_, _≤_};
+ghost use Prim.Native.Nat.{_+_, _*_, _/_, _^_, _≤_, _<_, min};
 ghost use lib.ListN.{length, take};
 ghost use lib.Seq.{sets};
 ghost use Rattle.placement.specs.declared.Rule.the-variants.{OneFloor};
 ghost use Rattle.placement.specs.Figure.{figureOf};
 ghost use Rattle.curve.specs.Binomials.{binomialRow};
 ghost use Rattle.curve.specs.Asked.{LayersAsked, figuresFrom};
+
+// The smaller of a layer's records and its floor. A layer without records loses nothing: there is no division.
+fn loss_from(layer: LayerHead, above: usize, below: usize) -> usize
+    requires { ⌜ (layer .bound * above < 2 ^ 64) × (0 < below) ⌝ }
+    ensures { λ r. ⌜ r ≡ min (layer .size) (layer .bound * above / below) ⌝ }
+{
+    if layer.size == 0 {
+        return 0;
+    }
+    smaller(layer.size, layer.bound * above / below)
+}
 
 // The figure by the one floor for k failures, with C(k,0) to C(k,5) in `above` and C(s,0) to C(s,5) in `below`.
 fn figure_from(
@@ -30,9 +41,7 @@ fn figure_from(
     let mut lost: usize = 0;
     let mut x: usize = 0;
     while x < s {
-        let layer = layers[x];
-        let most = layer.bound * above[x + 1] / below[x + 1];
-        lost += smaller(layer.size, most);
+        lost += loss_from(layers[x], above[x + 1], below[x + 1]);
         x += 1;
     }
     b - lost

@@ -8,7 +8,7 @@ ghost use lib.ListN.{take};
 ghost use Rattle.lists.specs.Lists.{All};
 ghost use Rattle.packing.specs.Floors.{floorsDown};
 ghost use Rattle.layers.specs.Layers.{sizes};
-ghost use Rattle.placement.specs.Figure.{ruleOf, lostBy, figureOf};
+ghost use Rattle.placement.specs.Figure.{ruleOf, lostBy, loss, figureOf};
 
 // The rule of loss of a placement of this kind.
 pub fn rule_of(kind: usize) -> Rule
@@ -48,6 +48,17 @@ fn lost_by(rule: Rule, s: usize, k: usize, x: usize, lambda: usize) -> usize
     lambda * above / below
 }
 
+// The loss of layer x by the rule. A layer without records loses nothing, whatever its floors: they are not computed.
+fn loss_of(rule: Rule, s: usize, k: usize, x: usize, layer: LayerHead) -> usize
+    requires { ⌜ (x < s) × (s ≤ 5) × (s ≤ k) × (k ≤ 255) × (layer .bound ≤ 16_777_216) ⌝ }
+    ensures { λ r. ⌜ r ≡ loss rule s k x layer ⌝ }
+{
+    if layer.size == 0 {
+        return 0;
+    }
+    minmax::smaller(layer.size, lost_by(rule, s, k, x, layer.bound))
+}
+
 // The figure by the rule: b less the losses of the layers below s.
 pub fn figure_of(rule: Rule, order: Order, layers: [LayerHead; 5]) -> usize
     requires { ⌜ (order .s ≤ 5) × (order .s ≤ order .k) × (order .k ≤ 255) × (sizes (take (order .s) layers) ≤ order .b) ⌝ }
@@ -60,8 +71,7 @@ pub fn figure_of(rule: Rule, order: Order, layers: [LayerHead; 5]) -> usize
     let mut lost: usize = 0;
     let mut x: usize = 0;
     while x < s {
-        let layer = layers[x];
-        lost += minmax::smaller(layer.size, lost_by(rule, s, k, x, layer.bound));
+        lost += loss_of(rule, s, k, x, layers[x]);
         x += 1;
     }
     b - lost

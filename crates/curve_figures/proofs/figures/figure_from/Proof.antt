@@ -36,59 +36,54 @@ below-is c =
     let p = c .before .before .pre in
     row-entry _ (p .1 .1) _ (omega (arith, p .0 .0 .s-most, c .loop-test .taken))
 
-mul-layer : tie.Need-mul-layer Inv-loop μ-loop
-mul-layer c = search needs
+mul-loss-from : tie.Need-mul-loss-from Inv-loop μ-loop
+mul-loss-from c = search needs
 
-array-copy-out-layer : tie.Need-array-copy-out-layer Inv-loop μ-loop
-array-copy-out-layer c = search needs
+array-copy-out-loss-from : tie.Need-array-copy-out-loss-from Inv-loop μ-loop
+array-copy-out-loss-from c = search needs
 
-add-most : tie.Need-add-most Inv-loop μ-loop
-add-most c = search needs
+add-loss-from : tie.Need-add-loss-from Inv-loop μ-loop
+add-loss-from c = search needs
 
-mul-most : tie.Need-mul-most Inv-loop μ-loop
-mul-most c = search needs
+mul-loss-from-2 : tie.Need-mul-loss-from-2 Inv-loop μ-loop
+mul-loss-from-2 c = search needs
 
-array-read-most : tie.Need-array-read-most Inv-loop μ-loop
-array-read-most c = search needs
+array-read-loss-from : tie.Need-array-read-loss-from Inv-loop μ-loop
+array-read-loss-from c = search needs
 
-mul-most-2 : tie.Need-mul-most-2 Inv-loop μ-loop
-mul-most-2 c =
-    let l = c .before .before in
+add-loss-from-2 : tie.Need-add-loss-from-2 Inv-loop μ-loop
+add-loss-from-2 c = search needs
+
+mul-loss-from-3 : tie.Need-mul-loss-from-3 Inv-loop μ-loop
+mul-loss-from-3 c = search needs
+
+array-read-loss-from-2 : tie.Need-array-read-loss-from-2 Inv-loop μ-loop
+array-read-loss-from-2 c = search needs
+
+loss-from-requires : tie.Need-loss-from-requires Inv-loop μ-loop
+loss-from-requires c κs =
+    let l = c .before in
     let p = l .before .before .pre in
     let most = lambda-most OneFloor _ _ _ _ _ (l .before .loop .inv) (l .loop-test .taken) (p .0 .0 .held) (p .0 .0 .bounds) in
     let fits = mul-choose-lt _ _ (l .before .loop .x + 1) most (p .0 .1) (omega (arith, p .0 .0 .s-most, l .loop-test .taken)) in
-    omega (arith, fits, ap (λ a. getD (l .before .before .args .t3) (l .before .loop .x) noHead .bound * a) (above-is l))
+    let some = choose-positive (l .before .before .args .s) (l .before .loop .x + 1) (omega (arith, l .loop-test .taken)) in (
+      omega (arith, fits, ap (λ a. getD (l .before .before .args .t3) (l .before .loop .x) noHead .bound * a) (above-is l)),
+      omega (arith, below-is l, some),
+    )
 
-add-most-2 : tie.Need-add-most-2 Inv-loop μ-loop
-add-most-2 c = search needs
-
-mul-most-3 : tie.Need-mul-most-3 Inv-loop μ-loop
-mul-most-3 c = search needs
-
-array-read-most-2 : tie.Need-array-read-most-2 Inv-loop μ-loop
-array-read-most-2 c = search needs
-
-div-most : tie.Need-div-most Inv-loop μ-loop
-div-most c =
-    let l = c .before .before in
-    omega (arith, below-is l, choose-positive (l .before .before .args .s) (l .before .loop .x + 1) (omega (arith, l .loop-test .taken)))
-
-smaller-requires : tie.Need-smaller-requires Inv-loop μ-loop
-smaller-requires c κs = search needs
-
-again : (c : tie.After-smaller Inv-loop μ-loop)
-    → let l = c .before .before .before in
+again : (c : tie.After-loss-from Inv-loop μ-loop)
+    → let l = c .before .before in
     let a = l .before .before .args in
-    LossTurn OneFloor (a .s) (a .k) (a .t3) (l .before .loop .lost + c .smaller .result) (l .before .loop .x + 1)
+    LossTurn OneFloor (a .s) (a .k) (a .t3) (l .before .loop .lost + c .loss-from .result) (l .before .loop .x + 1)
 again c =
-    let l = c .before .before .before in
+    let l = c .before .before in
     let a = l .before .before .args in
     loss-again OneFloor _ _ _ _ _ (l .before .loop .inv) (l .loop-test .taken) (l .before .before .pre .0 .0 .held)
-    (c .smaller .ensures ∙ ap (min (getD (a .t3) (l .before .loop .x) noHead .size)) (one-floor _ _ _ _ (above-is l) (below-is l)))
+    (c .loss-from .ensures ∙ ap (min (getD (a .t3) (l .before .loop .x) noHead .size)) (one-floor _ _ _ _ (above-is l) (below-is l)))
 
 add-lost : tie.Need-add-lost Inv-loop μ-loop
 add-lost c =
-    let p = c .before .before .before .before .before .pre in
+    let p = c .before .before .before .before .pre in
     omega (arith, p .0 .0 .fit, lost-le-sizes OneFloor _ _ _ _ _ (again c))
 
 add-x : tie.Need-add-x Inv-loop μ-loop
@@ -114,17 +109,15 @@ figure-from-spec =
     Inv-loop
     μ-loop
     loop-holds
-    mul-layer
-    array-copy-out-layer
-    add-most
-    mul-most
-    array-read-most
-    mul-most-2
-    add-most-2
-    mul-most-3
-    array-read-most-2
-    div-most
-    smaller-requires
+    mul-loss-from
+    array-copy-out-loss-from
+    add-loss-from
+    mul-loss-from-2
+    array-read-loss-from
+    add-loss-from-2
+    mul-loss-from-3
+    array-read-loss-from-2
+    loss-from-requires
     add-lost
     add-x
     loop-less
