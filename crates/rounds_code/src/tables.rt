@@ -43,7 +43,7 @@ fn usable_in(rows: &[u8], r: usize, s: usize, b: usize, state: usize) -> usize
 }
 
 // Puts the usable records of each state of n nodes into `table`.
-pub(crate) fn count_states(rows: &[u8], r: usize, s: usize, b: usize, n: usize, table: &mut [u16])
+fn put_states(rows: &[u8], r: usize, s: usize, b: usize, n: usize, table: &mut [u16])
     requires { ⌜ RowsAsked (now rows) r b ⌝ }
     requires { ⌜ (n ≤ 10) × (b ≤ 256) × (length (now table) ≡ 1024) ⌝ }
     ensures { λ _. ⌜ now (table .exit)
@@ -55,4 +55,30 @@ pub(crate) fn count_states(rows: &[u8], r: usize, s: usize, b: usize, n: usize, 
         table[state] = usable_in(rows, r, s, b, state) as u16;
         state += 1;
     }
+}
+
+// The same. For a length that is written as a number the compiler lays out the whole row.
+pub(crate) fn count_states(rows: &[u8], r: usize, s: usize, b: usize, n: usize, table: &mut [u16])
+    requires { ⌜ RowsAsked (now rows) r b ⌝ }
+    requires { ⌜ (n ≤ 10) × (b ≤ 256) × (length (now table) ≡ 1024) ⌝ }
+    ensures { λ _. ⌜ now (table .exit)
+        ≡ sets (now (table .entry)) 0 (map (λ state. usableOf s (rowsAt r b (now (rows .entry))) (downIn state)) (upTo (2 ^ n))) ⌝ }
+{
+    if r == 5 {
+        put_states(rows, 5, s, b, n, table);
+        return;
+    }
+    if r == 4 {
+        put_states(rows, 4, s, b, n, table);
+        return;
+    }
+    if r == 3 {
+        put_states(rows, 3, s, b, n, table);
+        return;
+    }
+    if r == 2 {
+        put_states(rows, 2, s, b, n, table);
+        return;
+    }
+    put_states(rows, r, s, b, n, table);
 }
