@@ -1,4 +1,5 @@
 // Sets of which one node is to come: no recursion is needed, and only what the node loses is counted.
+use minmax::smaller;
 use packing::Node;
 use worst::Search;
 use worst_hits::entries_of;
@@ -24,6 +25,11 @@ fn choose_last(search: Search, index: &[u16], hits: &[u8], set: &mut [u8], out: 
     let least = search.least;
     set[chosen] = next.0;
     let entries = entries_of(index, next);
+    // The node loses at most all its records: where that leaves enough, they are not looked at.
+    let most = smaller(entries.count, usable);
+    if least <= usable - most {
+        return least;
+    }
     let number = usable - lose(s, index, entries, hits);
     if least <= number {
         return least;
