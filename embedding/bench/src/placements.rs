@@ -67,7 +67,23 @@ fn paged(name: &str, p: &[u8], lent: &mut Lent) {
     line("page", name, || page(black_box(p), out), || plain_page(black_box(p)));
 }
 
-/// All rows, one step each; every node is looked at.
+/// A step in plain Rust as the library's is one: a call that is not inlined, with its answer in a lent slice: where the row begins and its
+/// length, 0 and 0 at the end, and the next step's place, r and what is left.
+#[inline(never)]
+fn plain_step(bytes: &[u8], [at, r, left]: [usize; 3], answer: &mut [usize]) -> usize {
+    if answer.len() < 6 {
+        return raw::BAD_LENGTH;
+    }
+    let row = if left == 0 { None } else { bytes.get(at..).and_then(|rest| rest.get(..r)) };
+    let told = match row {
+        Some(row) => [0, at, row.len(), at + r, r, left - 1],
+        None => [0, 0, 0, at, r, left],
+    };
+    answer[..6].copy_from_slice(&told);
+    0
+}
+
+/// All rows, one step each; every node is looked at. Measured against rows that plain Rust has at hand, and against steps that are calls.
 fn walked(name: &str, p: &[u8]) {
     let sum = |row: &[u8]| row.iter().map(|v| usize::from(*v)).sum::<usize>();
     let ours = |p: &[u8]| open_walk(p).expect("a walk").map(sum).sum::<usize>();
@@ -75,8 +91,21 @@ fn walked(name: &str, p: &[u8]) {
         let head = plain(p);
         rows_of(&head, p).chunks_exact(head.r).map(sum).sum::<usize>()
     };
-    assert_eq!(ours(p), theirs(p), "walk of {name}");
+    let called = |p: &[u8]| {
+        let head = plain(p);
+        let (mut place, mut total) = ([head.first, head.r, head.b], 0);
+        loop {
+            let mut a = [0; raw::STEP_ANSWER];
+            if plain_step(p, place, &mut a) != 0 || a[2] == 0 {
+                return total;
+            }
+            place = [a[3], a[4], a[5]];
+            total += sum(&p[a[1]..a[1] + a[2]]);
+        }
+    };
+    assert!(ours(p) == theirs(p) && ours(p) == called(p), "walk of {name}");
     line("open_walk, step", name, || ours(black_box(p)), || theirs(black_box(p)));
+    line("the same, plain Rust's step a call", name, || ours(black_box(p)), || called(black_box(p)));
 }
 
 /// The bare rows of a placement.
