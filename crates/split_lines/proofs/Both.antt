@@ -3,8 +3,8 @@ use Prim.Native.Nat.{ℕ, _+_, _*_, _-_, _≤_, _<_, min}
 use native.Mathlib.Omega.{arith}
 use mathlib.Core.Path.{_≡_, sym, ap, _∙_}
 use mathlib.Core.List.{List, map}
-use lib.ListN.{length, getD, take, drop, length-drop}
-use lib.Seq.{sets, getD-take, getD-drop, length-take-le}
+use lib.ListN.{length, getD, take, drop}
+use lib.Seq.{sets, getD-take, getD-drop}
 use Rattle.lists.specs.Lists.{upTo}
 use Rattle.lists.proofs.UpTo.{map-upTo-congr, length-map-upTo}
 use Rattle.lists.proofs.Stores.{storedTo, length-stored}
@@ -15,46 +15,30 @@ use Rattle.split.specs.Working.{part, LineBelow, Lowerable, lowered, Stepping, 
 use Rattle.split.proofs.Parts.{part-sets-before, part-stored, getD-stored, sets-sets}
 use Rattle.split.proofs.Passes.{copies-none}
 use Rattle.split.proofs.Stepped.{stepped-le-mark, stepped-capped}
-use Rattle.split_lines.proofs.Raising.{lineUnder, whole-pos, whole-le}
-
-length-part : (a k : ℕ) (l : List ℕ) → a + k ≤ length l → length (part a k l) ≡ k
-length-part a k l h = length-take-le k (drop a l) (let e = length-drop a l in omega arith)
+use Rattle.split_lines.proofs.Raising.{lineUnder, length-part, lent, lent-eq, length-lent, whole-pos, whole-le}
 
 module _ {u : Steps} {at w : ℕ} {before : List ℕ} (limits : StepLimits u) (below : LineBelow at w before) where
-  -- the line below, as it is lent
-  abbrev lent : List ℕ
-  lent = take (at - (at - w)) (drop (at - w) before)
-
-  lent-eq : lent ≡ lineUnder at w before
-  lent-eq =
-      let b = below .back in
-      let e : at - (at - w) ≡ w = omega arith in
-      ap (λ n. take n (drop (at - w) before)) e
-
-  length-lent : length lent ≡ w
-  length-lent = ap length lent-eq ∙ (let b = below .back in let f = below .fits in length-part (at - w) w before (omega arith))
-
   module _ {cost : ℕ} (capped : cost ≡ min (getD (u .costs) (u .period) 0) noSplit) where
-    pub both-stepping : Stepping (u .size) (u .period * u .size) cost lent
+    pub both-stepping : Stepping (u .size) (u .period * u .size) cost (lent at w before)
     both-stepping =
         record {
           size-le = limits .size-le;
           step-pos = whole-pos limits;
           step-le = whole-le limits;
           cost-le = omega arith;
-          rising = rw lent-eq (below .rising);
-          small = rw length-lent (below .small);
+          rising = rw (lent-eq below) (below .rising);
+          small = rw (length-lent below) (below .small);
         }
 
-    module _ {periods : List ℕ} (p : Periods (u .size) (u .period * u .size) cost lent (length lent) periods) where
+    module _ {periods : List ℕ} (p : Periods (u .size) (u .period * u .size) cost (lent at w before) (length (lent at w before)) periods) where
       abbrev under : List ℕ
       under = lineUnder at w before
 
       -- the entries by whole periods
       by-periods : (j : ℕ) → j < w + u .size → getD periods j 0 ≡ byPeriods u under (j - u .size)
       by-periods j h =
-          p .entries j (rw length-lent (omega arith))
-          ∙ rw (lent-eq, capped) (stepped-capped (u .period * u .size) (getD (u .costs) (u .period) 0) under (whole-pos limits) (below .rising) (j - u .size))
+          p .entries j (rw (length-lent below) (omega arith))
+          ∙ rw (lent-eq below, capped) (stepped-capped (u .period * u .size) (getD (u .costs) (u .period) 0) under (whole-pos limits) (below .rising) (j - u .size))
 
       -- those of the line alone
       abbrev aside : List ℕ

@@ -1,5 +1,6 @@
 pub mod Raising
 pub mod Stepping
 pub mod Climbing
+pub mod Gentle
 pub mod Lowering
 pub mod Both

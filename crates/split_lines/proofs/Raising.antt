@@ -5,8 +5,8 @@ use native.Mathlib.Nat.{mul-pos, mul-le-mul}
 use native.Mathlib.Omega.{arith}
 use mathlib.Core.Path.{_≡_, refl, sym, ap, _∙_}
 use mathlib.Core.List.{List}
-use lib.ListN.{length, getD, set, length-set}
-use lib.Seq.{sets}
+use lib.ListN.{length, getD, set, take, drop, length-set, length-drop}
+use lib.Seq.{sets, length-take-le}
 use Rattle.lists.proofs.UpTo.{map-upTo-congr}
 use Rattle.split.specs.declared.Steps.{Steps}
 use Rattle.split.specs.Splits.{noSplit}
@@ -20,6 +20,23 @@ use Rattle.split.proofs.Parts.{under-eq}
 -- the line below place `at`
 abbrev pub lineUnder : (at w : ℕ) (work : List ℕ) → List ℕ
 lineUnder at w work = part (at - w) w work
+
+-- as it is lent
+abbrev pub lent : (at w : ℕ) (work : List ℕ) → List ℕ
+lent at w work = take (at - (at - w)) (drop (at - w) work)
+
+pub length-part : (a k : ℕ) (l : List ℕ) → a + k ≤ length l → length (part a k l) ≡ k
+length-part a k l h = length-take-le k (drop a l) (let e = length-drop a l in omega arith)
+
+module _ {at w : ℕ} {before : List ℕ} (below : LineBelow at w before) where
+  pub lent-eq : lent at w before ≡ lineUnder at w before
+  lent-eq =
+      let b = below .back in
+      let e : at - (at - w) ≡ w = omega arith in
+      ap (λ n. take n (drop (at - w) before)) e
+
+  pub length-lent : length (lent at w before) ≡ w
+  length-lent = ap length lent-eq ∙ (let b = below .back in let f = below .fits in length-part (at - w) w before (omega arith))
 
 -- the entries f 0, f 1, .. before place i are written; `records` has the last one's loss by records
 pub record Raised (each at w : ℕ) (before : List ℕ) (f : ℕ → ℕ) (i records : ℕ) (work : List ℕ) : Type 0 where

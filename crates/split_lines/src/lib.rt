@@ -28,7 +28,7 @@ fn repeat_line(work: &mut [u16], at: usize, w: usize)
 
 // Writes the line of w entries at place `at` from the line before it, where each record in the layer is paid for: with one
 // more record an entry is `each` above the one before it, or all the records are below.
-fn raise_by_records(work: &mut [u16], at: usize, w: usize, each: usize)
+fn step_by_records(work: &mut [u16], at: usize, w: usize, each: usize)
     requires { ⌜ (each ≤ 8192) × LineBelow at w (now work) ⌝ }
     ensures { λ _. ⌜ now (work .exit) ≡ sets (now (work .entry)) at (map (stepped 1 each (part (at - w) w (now (work .entry)))) (upTo w)) ⌝ }
 {
@@ -40,6 +40,19 @@ fn raise_by_records(work: &mut [u16], at: usize, w: usize, each: usize)
         records = smaller(under, records + each);
         work[at + i] = records as u16;
         i += 1;
+    }
+}
+
+// The same. Entries made one by one wait for each other, so where no record is of use the line before it is copied.
+fn raise_by_records(work: &mut [u16], at: usize, w: usize, each: usize)
+    requires { ⌜ (each ≤ 8192) × LineBelow at w (now work) ⌝ }
+    ensures { λ _. ⌜ now (work .exit) ≡ sets (now (work .entry)) at (map (stepped 1 each (part (at - w) w (now (work .entry)))) (upTo w)) ⌝ }
+{
+    let from = at - w;
+    if crate::passes::is_gentle(&work[from..at], each as u16) {
+        repeat_line(work, at, w);
+    } else {
+        step_by_records(work, at, w, each);
     }
 }
 

@@ -6,9 +6,10 @@ ghost use mathlib.Core.Bool.{_&&_};
 ghost use mathlib.Core.List.{map};
 ghost use Prim.Native.Nat.{_-_, _%_, _≤_, min};
 ghost use lib.Dec.{eqb, ltb};
+ghost use lib.ListN.{length};
 ghost use lib.Seq.{sets};
 ghost use Rattle.lists.specs.Lists.{upTo, count, tally};
-ghost use Rattle.split.specs.Table.{StepLimits, lineEntry};
+ghost use Rattle.split.specs.Table.{StepLimits, Rising, lineEntry};
 ghost use Rattle.split.specs.Working.{part, LineBelow, Lowerable, lowered, climbs, ByPeriods};
 
 // The smaller of two entries.
@@ -61,6 +62,17 @@ fn is_enough(line: &[u16], d: usize, shift: usize, n: usize, cost: u16) -> bool
         return climbing(line, shift, n, cost) == 0;
     }
     false
+}
+
+// Whether no entry of a line is more than `each` above the one before it: then the records of a layer, at `each`, are of no use.
+pub(crate) fn is_gentle(line: &[u16], each: u16) -> bool
+    requires { ⌜ (each ≤ 8192) × (length (now line) ≤ 4097) × Rising (now line) ⌝ }
+    ensures { λ r. ⌜ r ≡ eqb (count (climbs 1 each (now (line .entry))) (upTo (length (now (line .entry)) - 1))) 0 ⌝ }
+{
+    if line.len() == 0 {
+        return true;
+    }
+    climbing(line, 1, line.len() - 1, each) == 0
 }
 
 // Fewer copies than a period beside the whole periods: one pass over the line for each number of them. `back` are the records

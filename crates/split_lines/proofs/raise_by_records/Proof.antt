@@ -1,108 +1,69 @@
--- `split_lines::raise_by_records` meets its contract. The loop's invariant: the entries before place `i` are written. Assumes nothing.
-use Prim.Native.Nat.{_≤_, _-_, _+_}
-use lib.ListN.{getD}
-use Rattle.split.specs.Splits.{noSplit}
-use Rattle.split.specs.Table.{stepped}
-use Rattle.split_lines.proofs.Raising.{lineUnder, Raised, raised-none, raised-next, raised-all, records-le, under-le, by-record}
-use native.Mathlib.Omega.{arith}
+-- `split_lines::raise_by_records` meets its contract: where records are of no use, the line below is the line. Assumes nothing.
+use Rattle.split_lines.proofs.Raising.{lent-eq, length-lent}
+use Rattle.split_lines.proofs.Gentle.{raised-gentle}
+use borrow.Author.Needs.{needs}
 use Rattle.split_lines.proofs.raise_by_records.Statement.{statement}
 use Rattle.split_lines.proofs.raise_by_records.Tie as tie
 
-abbrev Inv-loop : tie.InvT-loop
-Inv-loop work₀ at w each from records₀ i₀ work records i =
-    Raised each at w work₀ (stepped 1 each (lineUnder at w work₀)) i records work
+sub-from : tie.Need-sub-from
+sub-from c = search needs
 
-abbrev μ-loop : tie.MeasureT-loop
-μ-loop work₀ at w each from records₀ i₀ work records i =
-    w - i
+mul-is-gentle : tie.Need-mul-is-gentle
+mul-is-gentle c = search needs
 
--- where the function starts, as a turn of the loop sees it
-abbrev start : tie.In-loop Inv-loop μ-loop → tie.Start Inv-loop μ-loop
-start c = c .before .before .before
+sub-is-gentle : tie.Need-sub-is-gentle
+sub-is-gentle c = search needs
 
-sub-from : tie.Need-sub-from Inv-loop μ-loop
-sub-from c = c .before .pre .1 .back
+part-is-gentle-start : tie.Need-part-is-gentle-start
+part-is-gentle-start c = search needs
 
-loop-holds : tie.Need-loop-holds Inv-loop μ-loop
-loop-holds c = raised-none (c .before .pre .1)
+part-is-gentle-end : tie.Need-part-is-gentle-end
+part-is-gentle-end c = search needs
 
-add-under : tie.Need-add-under Inv-loop μ-loop
-add-under c = omega arith
+cast-is-gentle : tie.Need-cast-is-gentle
+cast-is-gentle c = search needs
 
-mul-under : tie.Need-mul-under Inv-loop μ-loop
-mul-under c = omega arith
+is-gentle-requires : tie.Need-is-gentle-requires
+is-gentle-requires c κs =
+    let p = c .before .before .before .pre in
+    let below = p .1 in
+    (p .0, rw (length-lent below) (below .small), rw (lent-eq below) (below .rising))
 
-slice-read-under : tie.Need-slice-read-under Inv-loop μ-loop
-slice-read-under c = omega arith
+repeat-line-requires : tie.Need-repeat-line-requires
+repeat-line-requires c κs = search needs
 
--- in a turn the entry below is not above the mark
-under-small : (c : tie.In-loop Inv-loop μ-loop)
-    → let a = start c .args in
-    getD (c .before .loop .work) (a .at - a .w + c .before .loop .i) 0 ≤ noSplit
-under-small c = under-le (start c .pre .1) (c .before .loop .inv) (c .loop-test .taken)
+step-by-records-requires : tie.Need-step-by-records-requires
+step-by-records-requires c κs = search needs
 
-cast-under : tie.Need-cast-under Inv-loop μ-loop
-cast-under c = let h = under-small (c .before) in omega arith
+same-length : tie.Need-same-length
+same-length c = search needs
 
-add-smaller : tie.Need-add-smaller Inv-loop μ-loop
-add-smaller c = let t = c .before in let h = records-le (start t .pre .1) (t .before .loop .inv) in omega arith
+returns : tie.Need-returns
+returns c =
+    let s = c .before .before .before .before .before .before .before .before .before in
+    raised-gentle (s .args .each) (s .pre .1) (c .before .before .before .before .before .is-gentle .ensures) (c .before .before .before .before .if1 .taken)
+    (c .before .before .repeat-line .ensures)
 
-smaller-requires : tie.Need-smaller-requires Inv-loop μ-loop
-smaller-requires c κs = tt
+same-length-2 : tie.Need-same-length-2
+same-length-2 c = search needs
 
-cast-work : tie.Need-cast-work Inv-loop μ-loop
-cast-work c = let h = under-small (c .before .before) in omega (arith, c .smaller .ensures)
-
-add-work : tie.Need-add-work Inv-loop μ-loop
-add-work c = omega arith
-
-mul-work : tie.Need-mul-work Inv-loop μ-loop
-mul-work c = omega arith
-
-slice-write-work : tie.Need-slice-write-work Inv-loop μ-loop
-slice-write-work c = omega arith
-
-add-i : tie.Need-add-i Inv-loop μ-loop
-add-i c = omega arith
-
-loop-less : tie.Need-loop-less Inv-loop μ-loop
-loop-less c = omega arith
-
-loop-again : tie.Need-loop-again Inv-loop μ-loop
-loop-again c =
-    let t = c .before .before in
-    let turn = t .loop-test .taken in
-    let raised = t .before .loop .inv in
-    let below = start t .pre .1 in
-    let more = c .smaller in
-    raised-next below raised turn (more .result) (more .result) (more .ensures) (by-record below raised turn (more .ensures))
-
-same-length : tie.Need-same-length Inv-loop μ-loop
-same-length c = c .before .loop .inv .same
-
-returns : tie.Need-returns Inv-loop μ-loop
-returns c = raised-all (c .before .before .before .pre .1) (c .before .loop .inv) (omega arith)
+returns-2 : tie.Need-returns-2
+returns-2 c = search needs
 
 pub raise-by-records-spec : {M : Type 1} → statement M
 raise-by-records-spec =
     tie.close
     (tie.spec
-    Inv-loop
-    μ-loop
     sub-from
-    loop-holds
-    add-under
-    mul-under
-    slice-read-under
-    cast-under
-    add-smaller
-    smaller-requires
-    cast-work
-    add-work
-    mul-work
-    slice-write-work
-    add-i
-    loop-less
-    loop-again
+    mul-is-gentle
+    sub-is-gentle
+    part-is-gentle-start
+    part-is-gentle-end
+    cast-is-gentle
+    is-gentle-requires
+    repeat-line-requires
+    step-by-records-requires
     same-length
-    returns)
+    returns
+    same-length-2
+    returns-2)
