@@ -7,6 +7,7 @@ from pathlib import Path
 
 from bare import BARE_DARK
 from cases import padded
+from document01 import check_reply
 from logs import replay_reply
 from replies import REPLIES, join_reply
 from rows_text import listing_reply
@@ -53,6 +54,7 @@ def main(crates):
     for name, (arguments, data) in RUNS.items():
         reply = REPLIES[name]([word.encode() for word in arguments], data)
         store(Path(crates) / f"{name}_main", arguments, data, reply)
+    store(Path(crates) / "check_main", (), NINE, check_reply(NINE))
     store(Path(crates) / "listing_main", (), LISTED, listing_reply(LISTED))
     store(Path(crates) / "join_main", tuple(FILES), None, join_reply(list(FILES.values())), FILES)
     store(Path(crates) / "replay_main", ("storm.log",), NINE, replay_reply([LOG], NINE), {"storm.log": LOG})
