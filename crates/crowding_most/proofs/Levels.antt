@@ -1,6 +1,6 @@
 -- Where there are no more tails than the largest number so far, growing sets changes nothing, so it may stop there; where one node
 -- is to come, counting is enough; a level's chains hold the tails after each node. Assumes nothing.
-use Prim.Native.Nat.{ℕ, zero, suc, max, _≤_, _<_}
+use Prim.Native.Nat.{ℕ, zero, suc, max, _≤_}
 use mathlib.Core.Path.{_≡_, sym, ap, _∙_}
 use mathlib.Core.List.{List, [], _∷_, _++_, map}
 use native.Mathlib.Omega.{arith}

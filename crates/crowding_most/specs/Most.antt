@@ -20,9 +20,9 @@ abbrev pub mostChild : (w r : ℕ) (rows heads counts next : List ℕ) (best : �
 mostChild w r rows heads counts next best =
     overNodes (λ v best. mostTails w (tailsAt r rows (chain heads counts next v)) best) 256 best
 
-pub record ChainGrown (rows : List ℕ) (search : Search) (chain : Chain) (next next′ : List ℕ) (most : ℕ) : Type 0 where
-  pub is : most ≡ mostTails (search .level .w) (tailsAt (search .level .r) rows (positions next chain)) (search .bound)
-  pub kept : KeptTo (nodeOf rows chain) rows next next′
+pub record ChainGrown (rows : List ℕ) (search : Search) (grown : Chain) (next next′ : List ℕ) (most : ℕ) : Type 0 where
+  pub is : most ≡ mostTails (search .level .w) (tailsAt (search .level .r) rows (positions next grown)) (search .bound)
+  pub kept : KeptTo (nodeOf rows grown) rows next next′
 
 pub record LevelGrown (rows : List ℕ) (search : Search) (heads counts next next′ : List ℕ) (most : ℕ) : Type 0 where
   pub is : most ≡ mostChild (search .level .w) (search .level .r) rows heads counts next (search .bound)

@@ -2,7 +2,6 @@
 use crate::count::count_row;
 ghost use mathlib.Core.Path.{_≡_};
 ghost use Prim.Native.Nat.{max};
-ghost use lib.ListN.{length};
 ghost use Rattle.lists.specs.Lists.{largest};
 ghost use Rattle.packing.specs.Rows.{rowsAt};
 ghost use Rattle.crowding_pairs.specs.Codes.{RowsRoom, RowsFit, Raised, codedRows, mostCoded};

@@ -63,7 +63,7 @@ module _ {rows : List ℕ} {c r size : ℕ} {weights table : List ℕ} (room : S
         (rowsAt r c rows) (rowsAt-lengths r c rows (room .fit .whole))
         (all-both (All (λ v. v < length weights)) (λ row. All (λ s. weigh weights s < length table) (subsets size row)) (rowsAt r c rows)
         (room .known) (room .cells)));
-    none = room .none;
+    zeros = room .zeros;
   }
 
   -- the largest cell afterwards
@@ -71,7 +71,7 @@ module _ {rows : List ℕ} {c r size : ℕ} {weights table : List ℕ} (room : S
       → largest table′ ≡ mostSumming weights (length table) size (rowsAt r c rows)
   counted-most {table′} raised =
       most-is (λ p. total (map (summing weights size p) (rowsAt r c rows))) (length table) table′ (raised .same)
-      (λ p. omega (arith, raised .cell p, room .none p, sets p))
+      (λ p. omega (arith, raised .cell p, room .zeros p, sets p))
     where
       sets : (p : ℕ) → total (map (leavingRow weights (r - size) p) (rowsAt r c rows)) ≡ total (map (summing weights size p) (rowsAt r c rows))
       sets p =
@@ -130,7 +130,7 @@ module _ {rows : List ℕ} {c r size n : ℕ} (fit : SetsFit rows c r size n) wh
     known = rows-known (length weights) le;
     cells = rw (length-replicate {A = ℕ} cells 0)
         (all-imp (λ row. T (inOrder n row)) (λ row. All (λ s. weigh weights s < cells) (subsets size row)) fits (rowsAt r c rows) (fit .order));
-    none = at-most-zero cells;
+    zeros = at-most-zero cells;
   }
 
   -- powers of two add up to less than the next one

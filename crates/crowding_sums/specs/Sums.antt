@@ -73,7 +73,7 @@ pub record RowsRoom (rows : List ℕ) (c r : ℕ) (weights : List ℕ) (d : ℕ)
   pub fit : RowsFit rows c r
   pub two : d ≤ 2
   pub weighed : All (Weighed weights d (length table)) (rowsAt r c rows)
-  pub none : AtMost 0 table
+  pub zeros : AtMost 0 table
 
 -- c rows of at most five nodes, sets with at most two nodes less whose sums have cells, and a table of zeros
 pub record SetsRoom (rows : List ℕ) (c r size : ℕ) (weights table : List ℕ) : Type 0 where
@@ -82,7 +82,7 @@ pub record SetsRoom (rows : List ℕ) (c r size : ℕ) (weights table : List ℕ
   pub two : r ≤ size + 2
   pub known : All (All (λ v. v < length weights)) (rowsAt r c rows)
   pub cells : All (λ row. All (λ s. weigh weights s < length table) (subsets size row)) (rowsAt r c rows)
-  pub none : AtMost 0 table
+  pub zeros : AtMost 0 table
 
 -- c rows of at most five of n nodes, in order, and sets with at most two nodes less
 pub record SetsFit (rows : List ℕ) (c r size n : ℕ) : Type 0 where

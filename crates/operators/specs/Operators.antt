@@ -5,7 +5,7 @@ use mathlib.Core.Bool.{Bool, _&&_}
 use mathlib.Core.List.{List}
 use lib.Dec.{leb}
 use Rattle.refusal.specs.declared.Refusal.the-variants.{BadWish}
-use Rattle.refusal.specs.Checked.{Checked, accepted, _>>=_, require}
+use Rattle.refusal.specs.Checked.{Checked, _>>=_, require}
 use Rattle.placement.specs.Placement.{Placement}
 use Rattle.placement.specs.declared.Order.{Order}
 use Rattle.planner.specs.Planning.{plan}

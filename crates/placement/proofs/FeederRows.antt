@@ -1,6 +1,6 @@
 -- Rows of feeders: a row without two nodes on one feeder is a row of feeders, in order; refusal 21's test says what document 02 says;
 -- replicas on failed feeders are counted through their nodes. Assumes nothing.
-use Prim.Native.Nat.{ℕ, suc, _<_}
+use Prim.Native.Nat.{ℕ, _<_}
 use native.Mathlib.Omega.{arith}
 use mathlib.Core.Path.{_≡_, refl, sym, _∙_, ap, subst}
 use mathlib.Core.Logic.{_↔_, _⊎_, inl, inr}
@@ -8,7 +8,7 @@ use mathlib.Core.Bool.{Bool, true, false, not, _&&_}
 use mathlib.Core.List.{List, [], _∷_, _++_, map, flatten}
 use mathlib.Core.Option.{Option, none, some}
 use lib.ListN.{length, getD, length-map}
-use lib.Dec.{T, eqb, ltb, ltb→lt, lt→ltb}
+use lib.Dec.{T, ltb, ltb→lt, lt→ltb}
 use Rattle.lists.specs.Lists.{All, every, firstWhere}
 use Rattle.lists.proofs.Tests.{T-true, true-T, false-T, bool-ext, and-left, and-right, and-both}
 use Rattle.lists.proofs.Alls.{all-imp, all-getD, all-map, every-all, all-every}

@@ -1,13 +1,12 @@
 -- The survivor guarantee of the nodes: whichever k nodes fail, at least as many records stay usable as the figure says. In a placement
 -- of kind 6 k nodes are on at most k feeders. Assumes nothing.
-use Prim.Native.Nat.{ℕ, _*_, _≤_, _<_}
+use Prim.Native.Nat.{ℕ, _≤_, _<_}
 use native.Mathlib.Omega.{arith}
 use native.Mathlib.Nat.{le-trans}
 use mathlib.Core.Path.{_≡_, refl}
 use mathlib.Core.Bool.{Bool, _&&_}
 use mathlib.Core.List.{List}
 use mathlib.Core.Option.{Option, none, some}
-use lib.ListN.{length}
 use lib.Dec.{T, eqb, ltb, ltb→lt, lt→ltb, eqb-refl}
 use Rattle.lists.specs.Lists.{All, count, any, upTo}
 use Rattle.lists.proofs.Tests.{T-true, true-T, and-left, and-right, and-both}
@@ -19,7 +18,7 @@ use Rattle.lists.proofs.DoubleCount.{count-mono-all, double-count, count-eqb-up
 use Rattle.packing.specs.Rows.{ascending, Row}
 use Rattle.packing.specs.Failures.{Failure, hits, usable}
 use Rattle.layers.specs.Layers.{allRows}
-use Rattle.placement.specs.Feeders.{Feeders, FeederLimits, feederOf, unitLayers, unitsOf}
+use Rattle.placement.specs.Feeders.{Feeders, FeederLimits, feederOf, unitLayers}
 use Rattle.placement.specs.Placement.{Placement, GoodPlacement}
 use Rattle.placement.specs.Units.{units, unitRows}
 use Rattle.placement.proofs.FeederRows.{feeder-allRows, usable-feeders}

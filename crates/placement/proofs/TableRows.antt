@@ -20,7 +20,7 @@ use Rattle.layers.specs.Layers.{Located, allRows}
 use Rattle.layers.specs.Answers.{nodesArray}
 use Rattle.layers.proofs.Listing.{length-nodesArray}
 use Rattle.layers.proofs.Lengths.{length-allRows}
-use Rattle.placement.specs.Feeders.{Feeders, FeederLimits, FeedersFit, feederOf, ordered, feederRow, unitLayers, unitsOf}
+use Rattle.placement.specs.Feeders.{Feeders, FeederLimits, FeedersFit, ordered, feederRow, unitsOf}
 use Rattle.placement.specs.Placement.{Placement, GoodPlacement, readPlacement}
 use Rattle.placement.specs.Units.{units, unitRows}
 use Rattle.placement.specs.Answers.{tableOf, unitsBy, rowByTable, rowsByTable}

@@ -24,7 +24,7 @@ use Rattle.placement.specs.declared.Order.{Order}
 use Rattle.placement.proofs.Answered.{placement-told}
 use Rattle.placement.proofs.Written.{written-bytes}
 use Rattle.split.specs.Splits.{Share, Split, Named, splitFigure, hasBlock, namedSplit}
-use Rattle.split.proofs.Named.{named, named-highest}
+use Rattle.split.proofs.Named.{named as named-is, named-highest}
 use Rattle.planner.specs.Planning.{plan, splitPlacement, namedPlacement, workNeeded, outputNeeded}
 use Rattle.planner.specs.Answers.{PlanDone, planOutcome, planValues}
 use Rattle.planner.specs.declared.PlanResult.{PlanResult}
@@ -99,7 +99,7 @@ demand-3-written bytes pack h is s k b limits block work work-left out out-left 
     record {
       split = namedSplit NestedFloors (headsOf (pack .layers)) s k b;
       placement = p;
-      named = named NestedFloors (headsOf (pack .layers)) s k b (limits .b-most) block;
+      named = named-is NestedFloors (headsOf (pack .layers)) s k b (limits .b-most) block;
       of-named = refl;
       answered = ap planOutcome (d .answer);
       written = rw (d .output-after) (take-at wrote (drop (length wrote) out) (length wrote) refl);

@@ -16,7 +16,7 @@ use Rattle.lists.proofs.Tests.{and-left}
 use Rattle.refusal.specs.declared.Refusal.the-variants.{SharedFeeder}
 use Rattle.refusal.specs.declared.Verdict.{Verdict}
 use Rattle.refusal.specs.declared.Verdict.the-variants.{Refused}
-use Rattle.refusal.specs.Checked.{_>>=_, verdict}
+use Rattle.refusal.specs.Checked.{verdict}
 use Rattle.packing.specs.Rows.{ascending, inOrder, Row, rowsAt, firstBad}
 use Rattle.packing.specs.Answers.{rowFound}
 use Rattle.packing.specs.declared.RowFound.{RowFound}

@@ -7,13 +7,13 @@ use mathlib.Core.Logic.{_⊎_, inl, inr}
 use mathlib.Core.Bool.{Bool, true, false, cond, not, _&&_}
 use mathlib.Core.List.{List, [], _∷_}
 use lib.ListN.{length, getD, take}
-use lib.Dec.{leb, ltb}
+use lib.Dec.{ltb}
 use borrow.Author.Tests.{lt-ltb, le-ltb, le-leb, lt-leb}
 use Rattle.refusal.specs.declared.Refusal.{Refusal}
 use Rattle.refusal.specs.declared.Refusal.the-variants.{EarlierEvent, BadEvent}
-use Rattle.refusal.specs.Checked.{Checked, accepted, refused, _>>=_, require, verdict}
+use Rattle.refusal.specs.Checked.{Checked, accepted, refused, _>>=_, verdict}
 use Rattle.replay.specs.declared.Event.{Event}
-use Rattle.replay.specs.Log.{allUp, downAfter, changes, checkEvent, checkEvents, checkLog, downBy, noEvent, GoodAt}
+use Rattle.replay.specs.Log.{allUp, downAfter, checkEvent, checkEvents, checkLog, downBy, noEvent, GoodAt}
 use Rattle.replay.proofs.Steps.{good-event, in-time-event}
 
 -- the time of a log's last event; `time` where it has none

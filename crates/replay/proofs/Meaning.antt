@@ -4,16 +4,15 @@ use native.Mathlib.Omega.{arith}
 use native.Mathlib.Nat.{add-zero}
 use mathlib.Core.Path.{_≡_, refl, _∙_}
 use mathlib.Core.Logic.{_⊎_, inl, inr, ⊎-elim}
-use mathlib.Core.Bool.{Bool, true, false, cond, not, _&&_}
+use mathlib.Core.Bool.{Bool, true, false, cond}
 use mathlib.Core.List.{List, [], _∷_}
 use mathlib.Core.Option.{none, some}
 use lib.ListN.{length, take}
-use lib.Dec.{leb, ltb}
+use lib.Dec.{ltb}
 use borrow.Author.Tests.{ltb-true, ltb-false}
-use Rattle.refusal.specs.Checked.{_>>=_, require}
 use Rattle.replay.specs.declared.Event.{Event}
-use Rattle.replay.specs.Log.{allUp, downAfter, downBy, checkEvent, checkEvents}
-use Rattle.replay.specs.Replays.{Lowest, lowered, lowestFrom, lowestBy}
+use Rattle.replay.specs.Log.{downAfter, downBy}
+use Rattle.replay.specs.Replays.{Lowest, lowestFrom}
 
 -- how many records are usable after event t
 abbrev pub usableAfter : (value : (ℕ → Bool) → ℕ) (down : ℕ → Bool) (log : List Event) (t : ℕ) → ℕ

@@ -14,7 +14,7 @@ use Rattle.replay.specs.declared.Event.{Event}
 use Rattle.replay.specs.declared.Progress.{Progress}
 use Rattle.replay.specs.declared.Replayed.{Replayed}
 use Rattle.replay.specs.declared.Replayed.the-variants.{Lowest, Quiet, Refused}
-use Rattle.replay.specs.Log.{downAfter, changes, checkEvent}
+use Rattle.replay.specs.Log.{changes, checkEvent}
 use Rattle.replay.specs.Board.{loweredTo, onePass, indexOf, downOf, valueBy, running, Counting, Standing, Stepped, Moved}
 
 good-accepted : (m : Checked Unit) → Good ≡ verdict m → m ≡ accepted tt

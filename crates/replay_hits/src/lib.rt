@@ -6,7 +6,7 @@ ghost use lib.Dec.{eqb};
 ghost use lib.ListN.{length};
 ghost use Rattle.lists.specs.Lists.{tally};
 ghost use Rattle.worst.specs.Records.{few};
-ghost use Rattle.replay.specs.Board.{hitsOf, indexOf, Raised, Raising, Restored, Restoring};
+ghost use Rattle.replay.specs.Board.{hitsOf, Raised, Raising, Restored, Restoring};
 
 // 1 where the two numbers are equal, 0 else.
 fn equal(a: usize, b: usize) -> usize

@@ -8,7 +8,6 @@ use replay::Replayed;
 use replay_moves::change;
 ghost use mathlib.Core.Path.{_≡_};
 ghost use mathlib.Core.Bool.{cond, not};
-ghost use Prim.Native.Nat.{_≤_, _<_};
 ghost use lib.ListN.{length};
 ghost use Rattle.refusal.specs.Checked.{verdict};
 ghost use Rattle.replay.specs.Log.{checkEvent};

@@ -9,7 +9,7 @@ use text::GivenEnd;
 use text::TextRefusal;
 ghost use Prim.Native.Nat.{_≤_};
 ghost use lib.ListN.{length};
-ghost use mathlib.Core.List.{_∷_, [], _++_};
+ghost use mathlib.Core.List.{_++_};
 ghost use Rattle.planner.specs.Planning.{workMost};
 ghost use Rattle.report.specs.Programs.{rest};
 ghost use Rattle.report.specs.Replies.{Replied};

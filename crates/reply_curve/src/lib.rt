@@ -5,7 +5,7 @@ use refusal::Writing;
 use report::Reply;
 use text::GivenEnd;
 use text::TextRefusal;
-ghost use Prim.Native.Nat.{_*_, _≤_};
+ghost use Prim.Native.Nat.{_≤_};
 ghost use lib.ListN.{length};
 ghost use Rattle.report.specs.Replies.{Replied};
 ghost use Rattle.report.specs.Answers.{ReplyDone};

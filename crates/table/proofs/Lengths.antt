@@ -1,5 +1,5 @@
 -- How long a pack's text is. Assumes nothing.
-use Prim.Native.Nat.{ℕ, suc, _+_, _*_, _≤_, _<_}
+use Prim.Native.Nat.{ℕ, _+_, _*_, _≤_, _<_}
 use native.Mathlib.Omega.{arith}
 use mathlib.Core.List.{List, [], _∷_, _++_, map, flatten}
 use lib.ListN.{length, length-append}
@@ -11,7 +11,7 @@ use Rattle.layers.specs.Layers.{Layer, allRows, headsOf, sizes}
 use Rattle.layers.proofs.Listing.{dark-count, dark-below}
 use Rattle.pack.specs.Pack.{Pack, GoodPack}
 use Rattle.report.specs.Programs.{decimal, rest}
-use Rattle.table.specs.declared.Word.the-variants.{Table, Out, Mu, Plain}
+use Rattle.table.specs.declared.Word.the-variants.{Table, Mu, Plain}
 use Rattle.table.specs.Printing.{textLine, outText, layerText, tableText}
 use Rattle.table.proofs.Numbers.{tens, decimal-short}
 

@@ -1,5 +1,5 @@
 -- Reading what was printed, line by line. Assumes nothing.
-use Prim.Native.Nat.{ℕ, suc, _+_, _≤_}
+use Prim.Native.Nat.{ℕ, suc, _≤_}
 use native.Mathlib.Omega.{arith}
 use mathlib.Core.Path.{_≡_, refl, sym, _∙_, ap}
 use mathlib.Core.List.{List, [], _∷_, _++_, append-assoc}
@@ -8,8 +8,8 @@ use Rattle.lists.specs.Lists.{All}
 use Rattle.lists.proofs.Alls.{all-append}
 use Rattle.table.specs.declared.Word.{Word}
 use Rattle.table.specs.declared.Word.the-variants.{Table, Out, Mu, Plain}
-use Rattle.table.specs.Told.{good, _>>=_}
-use Rattle.table.specs.Lines.{linesOf, begins, letters, wordOf, numbersAfter, uncommented, readNumbers}
+use Rattle.table.specs.Told.{_>>=_}
+use Rattle.table.specs.Lines.{linesOf, begins, letters, wordOf, numbersAfter, readNumbers}
 use Rattle.table.specs.Reading.{Draft, addNumbers, addContent, addLine, readLines}
 use Rattle.table.specs.Printing.{textLine}
 use Rattle.table.proofs.Lines.{Inside, lines-line, before-all}

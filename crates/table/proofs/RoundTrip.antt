@@ -8,7 +8,6 @@ use borrow.Author.Tests.{lt-ltb, le-leb, eq-eqb}
 use Rattle.lists.specs.Lists.{All, total}
 use Rattle.lists.proofs.Alls.{all-append-left, all-append-right}
 use Rattle.lists.proofs.Counts.{flatten-append}
-use Rattle.refusal.specs.Checked.{refused}
 use Rattle.refusal.proofs.Checked.{mapAccepted-accepted}
 use Rattle.packing.specs.Rows.{Row}
 use Rattle.layers.specs.Layers.{Layer, BaseLimits, allRows, headsOf, headNumbers, sizes, listNumbers}
@@ -18,7 +17,7 @@ use Rattle.report.specs.Programs.{rest}
 use Rattle.table.specs.declared.Word.the-variants.{Table, Out, Mu, Plain}
 use Rattle.table.specs.Told.{Told, good, _>>=_}
 use Rattle.table.specs.Lines.{linesOf, begins, wordOf, readNumbers, before}
-use Rattle.table.specs.Reading.{Draft, startDraft, addOut, addLayer, addBlock, addNumbers, addContent, addLine, readLines, readText, draftBytes, packIf, packDraft, packOf}
+use Rattle.table.specs.Reading.{Draft, startDraft, addOut, addLayer, addBlock, addNumbers, addContent, addLine, readLines, readText, draftBytes, packDraft, packOf}
 use Rattle.table.specs.Printing.{textLine, outText, layerText, tableText}
 use Rattle.table.proofs.Numbers.{Short}
 use Rattle.table.proofs.Printed.{read-line}

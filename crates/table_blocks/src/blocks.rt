@@ -2,7 +2,6 @@
 use table::Added;
 use table::Fault;
 use table::Progress;
-ghost use mathlib.Core.Path.{_≡_};
 ghost use Rattle.table.specs.Reading.{addBlock};
 ghost use Rattle.table.specs.Progress.{Finds, Room, Grown, draftOf, foundIn};
 

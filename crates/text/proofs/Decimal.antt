@@ -7,7 +7,7 @@ use mathlib.Core.Path.{_≡_, refl, _∙_, ap}
 use mathlib.Core.Bool.{Bool, true, false, cond, _&&_}
 use mathlib.Core.List.{List}
 use lib.ListN.{length, getD, List·getD-eq-default}
-use lib.Dec.{leb, ltb, leb→le}
+use lib.Dec.{leb, leb→le}
 use mathlib.Core.Logic.{⊎-elim}
 use Rattle.lists.proofs.Arith.{le-or-lt}
 use Rattle.lists.proofs.Tests.{T-true, and-right}

@@ -17,7 +17,7 @@ use Rattle.lists.proofs.Tests.{T-not-false}
 use Rattle.packing.specs.Rows.{ascending, member}
 use Rattle.packing.specs.Failures.{Failure, FailedNodes, hits, usable}
 use Rattle.packing.proofs.Members.{le-of-member, ascending-distinct}
-use Rattle.worst.specs.Worst.{Worst, through, nodesFrom, usableWithout, noneYet, worstOver, Before}
+use Rattle.worst.specs.Worst.{Worst, nodesFrom, usableWithout, noneYet, worstOver, Before}
 use Rattle.worst.proofs.Through.{at, length-nodesFrom}
 use Rattle.worst.proofs.Sets.{Within, Lowered, within-ascending, within-below, ascending-within, through-at-most, through-lowers}
 

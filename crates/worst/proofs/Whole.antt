@@ -1,5 +1,5 @@
 -- From the search with an index to the true worst case of the rows. Assumes nothing.
-use Prim.Native.Nat.{ℕ, zero, suc, _+_, _-_, _*_, _≤_, _<_}
+use Prim.Native.Nat.{ℕ, zero, suc, _+_, _-_, _≤_, _<_}
 use native.Mathlib.Omega.{arith}
 use native.Mathlib.Nat.{le-of-eq, sub-zero}
 use native.Mathlib.Numerals.{add-one}
@@ -25,7 +25,7 @@ use Rattle.packing.proofs.Members.{distinct-head, distinct-tail, ascending-dist
 use Rattle.packing.proofs.RowsAt.{length-rowsAt}
 use Rattle.worst.specs.declared.Shape.{Shape}
 use Rattle.placement.specs.declared.Order.{Order}
-use Rattle.worst.specs.Worst.{Worst, lower, through, nodesFrom, usableWithout, noneYet}
+use Rattle.worst.specs.Worst.{Worst, lower, through, nodesFrom, usableWithout}
 use Rattle.worst.specs.Records.{onSet, usableBy, IndexOf}
 use Rattle.worst.specs.Searches.{Searching, Searched}
 use Rattle.worst.specs.Asked.{RowsAsked, RowsDone, worstRows}

@@ -1,7 +1,6 @@
 -- `records_code::check_records` meets its contract: kind 6 is checked apart, and every other kind as its rows are. Assumes nothing.
 use borrow.Author.Tests.{ne-eqb}
 use Rattle.records_code.proofs.Unfed.{unfed-answer}
-use borrow.Author.Needs.{needs}
 use Rattle.records_code.proofs.check_records.Statement.{statement}
 use Rattle.records_code.proofs.check_records.Tie as tie
 

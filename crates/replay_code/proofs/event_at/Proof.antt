@@ -1,6 +1,6 @@
 -- `replay_code::event_at` meets its contract: a walk of its MIR, by hand. The place of event i is i times 8 past the slice's
 -- pointer, and the struct is read there. The code has no check of the bound: it is the contract's to ask. Assumes nothing.
-use mathlib.Core.Path.{_≡_, refl, sym}
+use mathlib.Core.Path.{refl, sym}
 use Prim.Native.Nat.{ℕ, _*_, _<_, _^_}
 use native.Mathlib.Omega.{arith}
 use mathlib.Core.List.{List, [], _∷_}

@@ -1,6 +1,5 @@
 -- `reply_commit::bad` meets its contract. Assumes nothing.
 use borrow.Author.Tests.{lt-ltb, le-ltb}
-use borrow.Author.Needs.{needs}
 use Rattle.reply_commit.proofs.bad.Statement.{statement}
 use Rattle.reply_commit.proofs.bad.Tie as tie
 

@@ -1,6 +1,5 @@
 -- `reply_operator::bad` meets its contract. Assumes nothing.
 use borrow.Author.Tests.{lt-ltb, le-ltb}
-use borrow.Author.Needs.{needs}
 use Rattle.reply_operator.proofs.bad.Statement.{statement}
 use Rattle.reply_operator.proofs.bad.Tie as tie
 

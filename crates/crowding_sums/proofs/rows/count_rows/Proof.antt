@@ -20,7 +20,7 @@ abbrev start : tie.In-loop Inv-loop μ-loop → tie.Start Inv-loop μ-loop
 start c = c .before .before .before .before .before
 
 loop-holds : tie.Need-loop-holds Inv-loop μ-loop
-loop-holds c = turns-start (c .before .before .before .pre .none)
+loop-holds c = turns-start (c .before .before .before .pre .zeros)
 
 add-end : tie.Need-add-end Inv-loop μ-loop
 add-end c = omega (arith, turn-fits (c .before .loop .inv) (start c .pre .fit) (c .loop-test .taken))

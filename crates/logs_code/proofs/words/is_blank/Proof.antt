@@ -1,7 +1,6 @@
 -- `words::is_blank` meets its contract: each byte in turn. Assumes nothing.
 use mathlib.Core.Path.{refl}
 use borrow.Author.Tests.{ne-eqb}
-use borrow.Author.Needs.{needs}
 use Rattle.logs_code.proofs.words.is_blank.Statement.{statement}
 use Rattle.logs_code.proofs.words.is_blank.Tie as tie
 

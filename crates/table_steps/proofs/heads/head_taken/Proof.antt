@@ -1,7 +1,6 @@
 -- `table_steps::heads::head_taken` meets its contract. Assumes nothing.
 use Rattle.table_steps.proofs.Ordering.{taken-few, taken-many, taken-one, taken-six, taken-last}
 use native.Mathlib.Omega.{arith}
-use borrow.Author.Needs.{needs}
 use Rattle.table_steps.proofs.heads.head_taken.Statement.{statement}
 use Rattle.table_steps.proofs.heads.head_taken.Tie as tie
 

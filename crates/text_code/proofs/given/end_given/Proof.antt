@@ -2,7 +2,6 @@
 use mathlib.Core.Path.{sym, _∙_}
 use borrow.Author.Tests.{eq-eqb, ne-eqb}
 use Rattle.text.proofs.Numbers.{end-none, end-some}
-use borrow.Author.Needs.{needs}
 use Rattle.text_code.proofs.given.end_given.Statement.{statement}
 use Rattle.text_code.proofs.given.end_given.Tie as tie
 
