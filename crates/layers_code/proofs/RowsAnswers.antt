@@ -1,13 +1,12 @@
 -- The answers of checking rows: 1 or 5 for their length, then 6 over all rows, then 15, then 7. Assumes nothing.
-use Prim.Native.Nat.{ℕ, _+_, _*_, _≤_, _<_}
-use native.Mathlib.Nat.{mul-le-mul, le-of-lt, le-refl}
-use mathlib.Core.Path.{_≡_, refl, sym, _∙_}
-use mathlib.Core.List.{List, [], _∷_, flatten}
+use Prim.Native.Nat.{ℕ, _+_, _*_, _<_}
+use native.Mathlib.Nat.{le-of-lt, le-refl}
+use mathlib.Core.Path.{_≡_, refl, _∙_}
+use mathlib.Core.List.{List}
 use mathlib.Core.Option.{Option, none, some}
 use lib.ListN.{length, drop}
 use lib.Dec.{T}
 use borrow.Author.Tests.{le-leb, lt-leb}
-use Rattle.lists.specs.Lists.{total}
 use Rattle.lists.proofs.Alls.{all-imp}
 use Rattle.lists.proofs.Tests.{and-left}
 use Rattle.refusal.specs.declared.Refusal.{Refusal}
@@ -18,22 +17,10 @@ use Rattle.refusal.specs.Checked.{Checked, accepted, refused, _>>=_, verdict}
 use Rattle.refusal.proofs.Checked.{verdict-good, verdict-refused, refused-not-accepted}
 use Rattle.packing.specs.Rows.{ascending, inOrder, rowsAt, firstBad}
 use Rattle.packing.proofs.Test.{good-iff-in-order}
-use Rattle.packing.proofs.RowsAt.{rowsAt-add}
 use Rattle.layers.specs.Layers.{Layer, Site, sizes, allRows, layersAt, refuseRow, checkLength, checkEnd, checkAscending, checkService, checkPackings, checkRows}
 use Rattle.layers.specs.declared.LayerHead.{LayerHead}
 use Rattle.layers.specs.Asked.{Ascending}
-
--- the rows' bytes are few
-pub rows-small : {rows r : ℕ} → rows ≤ 4_096 → r ≤ 5 → rows * r ≤ 20_480
-rows-small h k = mul-le-mul h k
-
--- the rows of all layers are the rows that follow one another in the bytes
-pub allRows-layersAt : (r : ℕ) (heads : List LayerHead) (s : List ℕ) → allRows (layersAt r heads s)
-    ≡ rowsAt r (sizes heads) s
-unfolding layersAt rowsAt flatten total
-allRows-layersAt r [] s = refl
-allRows-layersAt r (head ∷ heads) s =
-    rw (allRows-layersAt r heads (drop (head .size * r) s)) (sym (rowsAt-add r (head .size) (sizes heads) s))
+use Rattle.layers_packings.proofs.AllRows.{allRows-layersAt}
 
 -- what a last check says, with what is handed on after it
 pub verdict-left : {A : Type 0} (m : Checked Unit) (a : A) → verdict m ≡ verdict (m >>= λ u. accepted a)

@@ -1,15 +1,11 @@
 // Checking the rows of all layers, in steps: their length, their end, their order, the nodes out of service and the packing
 // test.
 mod ascending;
-mod packings;
-mod place;
 mod service;
 
 pub use ascending::check_ascending;
 use layers::Base;
 use layers::LayerHead;
-pub use packings::check_packings;
-pub use place::row_start;
 use refusal::Refusal;
 use refusal::Verdict;
 pub use service::check_service;
@@ -19,20 +15,6 @@ ghost use lib.ListN.{length, take};
 ghost use Rattle.refusal.specs.Checked.{verdict};
 ghost use Rattle.layers.specs.Layers.{sizes, checkRows};
 ghost use Rattle.layers.specs.Answers.{siteOf, DarkFits};
-
-// How many rows the first layers have.
-pub fn count_rows(layers: usize, heads: [LayerHead; 5]) -> usize
-    requires { ⌜ (layers ≤ 5) × (sizes (take layers heads) ≤ 4096) ⌝ }
-    ensures { λ r. ⌜ r ≡ sizes (take layers heads) ⌝ }
-{
-    let mut sum: usize = 0;
-    let mut x: usize = 0;
-    while x < layers {
-        sum += heads[x].size;
-        x += 1;
-    }
-    sum
-}
 
 // The rows of the layers, whose first row starts at `at`: good, or refusal 1 or 5 for their length, 6 over all
 // of them, 15, 7.
@@ -49,7 +31,7 @@ pub fn check_rows(
     ensures { λ answer. ⌜ answer ≡ verdict (checkRows (siteOf base) (take layers heads) (now (bytes .entry)) at) ⌝ }
 {
     let r = base.r;
-    let rows = count_rows(layers, heads);
+    let rows = layers_packings::count_rows(layers, heads);
     let end = at + rows * r;
     if bytes.len() < end {
         return Verdict::Refused(Refusal::Ended(bytes.len()));
@@ -65,5 +47,5 @@ pub fn check_rows(
     if let Verdict::Refused(e) = service {
         return Verdict::Refused(e);
     }
-    check_packings(bytes, at, r, layers, heads)
+    layers_packings::check_packings(bytes, at, r, layers, heads)
 }

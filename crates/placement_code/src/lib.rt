@@ -1,6 +1,4 @@
 // Checking placements.
-mod terms;
-
 use layers::Dark;
 use layers::FileKind;
 use layers::LayerHead;
@@ -52,7 +50,7 @@ pub fn check_placement(bytes: &[u8]) -> PlacementCheck
     }
     let kind = head.kind;
     let base = head.base;
-    let read = terms::read_terms(bytes, base, head.next);
+    let read = terms_code::read_terms(bytes, base, head.next);
     let read_verdict = read.verdict;
     if let Verdict::Refused(e) = read_verdict {
         return refuse(e);

@@ -3,27 +3,26 @@
 use Prim.Native.Nat.{ℕ, _+_, _*_, _≤_, _<_}
 use native.Mathlib.Omega.{arith}
 use mathlib.Core.Path.{_≡_, refl, sym, _∙_, ap}
-use mathlib.Core.Bool.{not}
-use mathlib.Core.List.{List, map}
+use mathlib.Core.List.{List}
 use mathlib.Core.Option.{Option, none, some}
 use lib.ListN.{length, drop, length-drop}
 use lib.Dec.{T}
 use borrow.Author.Tests.{le-leb, lt-leb}
-use Rattle.lists.specs.Lists.{All, firstWhere}
+use Rattle.lists.specs.Lists.{All}
 use Rattle.lists.proofs.Alls.{all-both}
 use Rattle.refusal.specs.declared.Refusal.{Refusal}
-use Rattle.refusal.specs.declared.Refusal.the-variants.{Ended, Trailing, BadRow, SharedFeeder}
+use Rattle.refusal.specs.declared.Refusal.the-variants.{Ended, Trailing, BadRow}
 use Rattle.refusal.specs.declared.Verdict.{Verdict}
 use Rattle.refusal.specs.declared.Verdict.the-variants.{Good, Refused}
 use Rattle.refusal.specs.Checked.{Checked, accepted, refused, _>>=_, verdict}
 use Rattle.refusal.proofs.Checked.{verdict-good, verdict-refused, refused-not-accepted}
-use Rattle.packing.specs.Rows.{Row, inOrder, distinct, rowsAt, firstBad}
+use Rattle.packing.specs.Rows.{Row, inOrder, rowsAt, firstBad}
 use Rattle.packing.proofs.Test.{good-iff-in-order}
 use Rattle.layers.specs.Layers.{Layer, Site, sizes, allRows, layersAt, refuseRow, checkLength, checkEnd, checkAscending, checkService, checkPackings}
 use Rattle.layers.specs.declared.LayerHead.{LayerHead}
 use Rattle.layers.proofs.Layouts.{layersAt-lengths}
-use Rattle.layers_code.proofs.RowsAnswers.{allRows-layersAt}
-use Rattle.placement.specs.Feeders.{Feeders, FeedersReading, feederOf, ordered, unitLayers, shares, readNumbered, readFeeders, checkApart}
+use Rattle.layers_packings.proofs.AllRows.{allRows-layersAt}
+use Rattle.placement.specs.Feeders.{Feeders, FeedersReading, unitLayers, readNumbered, readFeeders, checkApart}
 use Rattle.placement.specs.Placement.{Rows, checkRecords}
 use Rattle.placement.specs.Answers.{tableOf, feedersRead, recordsCheck}
 use Rattle.placement.specs.Asked.{TableFits, tableFeeders, feedersChecked, fedRowsChecked}
@@ -31,7 +30,7 @@ use Rattle.placement.specs.declared.FeedersRead.{FeedersRead}
 use Rattle.placement.specs.declared.RecordsCheck.{RecordsCheck}
 use Rattle.placement.proofs.FeederNumbers.{Numbered, reads-of-readNumbered}
 use Rattle.placement.proofs.RecordsMeaning.{when-short, when-feeders}
-use Rattle.placement.proofs.TableRows.{getD-nodesArray}
+use Rattle.feeders_packings.proofs.TableFeeders.{same-feeders}
 
 -- what reading the feeders gave
 pub read-refused : (m : Checked FeedersReading) {read : FeedersRead} {e : Refusal} → read ≡ feedersRead m → read .verdict ≡ Refused e → m ≡ refused e
@@ -48,23 +47,7 @@ pub was-read : (m : Checked FeedersReading) {read : FeedersRead} → read ≡ fe
 was-read (accepted a) is good = record { after = a; is = refl; table-is = ap (λ r. r .table) is; next-is = ap (λ r. r .next) is }
 was-read (refused e) is good = absurd (let v = ap (λ r. r .verdict) is in let z : _≡_ {A = ℕ} 0 1 = cc in omega arith)
 
--- 21 and 7 look at the nodes' feeders alone
-checkedBy : (r at : ℕ) (layers : List Layer) (feeder : ℕ → ℕ) → Checked Unit
-checkedBy r at layers feeder =
-    refuseRow SharedFeeder r at (firstWhere (λ row. not (distinct (map feeder row))) (allRows layers))
-    >>= λ u. checkPackings r at (map (λ layer. record { bound = layer .bound; rows = map (λ row. ordered (map feeder row)) (layer .rows) }) layers)
-
-by-feeder : (r at : ℕ) (feeders : Feeders) (layers : List Layer) → feedersChecked r at feeders layers ≡ checkedBy r at layers (feederOf feeders)
-unfolding checkedBy feedersChecked checkApart shares
-by-feeder r at feeders layers = refl
-
-pub same-feeders : (r at : ℕ) (feeders : Feeders) (layers : List Layer) → length (feeders .each) ≤ 255
-    → feedersChecked r at (tableFeeders (tableOf (some feeders))) layers ≡ feedersChecked r at feeders layers
-same-feeders r at feeders layers few =
-    by-feeder r at (tableFeeders (tableOf (some feeders))) layers
-    ∙ ap (checkedBy r at layers) (λ i v. getD-nodesArray (feeders .each) few v i)
-    ∙ sym (by-feeder r at feeders layers)
-
+-- the table that was read says of each node what its feeders say
 same-rows : (base : Site) (at : ℕ) (feeders : Feeders) (layers : List Layer) → length (feeders .each) ≤ 255
     → fedRowsChecked base at (tableFeeders (tableOf (some feeders))) layers ≡ fedRowsChecked base at feeders layers
 unfolding fedRowsChecked

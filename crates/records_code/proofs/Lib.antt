@@ -1,3 +1,2 @@
 pub mod Unfed
 pub mod FedAnswers
-pub mod UnitAnswers

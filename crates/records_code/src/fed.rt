@@ -1,5 +1,4 @@
 // The rows of kind 6, and the numbers after them.
-use crate::feeders::check_feeders;
 use layers::Base;
 use layers::LayerHead;
 use placement::FeederTable;
@@ -8,10 +7,9 @@ use placement::Terms;
 use refusal::Refusal;
 use refusal::Verdict;
 ghost use mathlib.Core.Path.{_≡_};
-ghost use Prim.Native.Nat.{_+_, _*_, _≤_};
-ghost use lib.ListN.{length, take, drop};
+ghost use lib.ListN.{take, drop};
 ghost use Rattle.refusal.specs.Checked.{refused, verdict};
-ghost use Rattle.layers.specs.Layers.{sizes, layersAt};
+ghost use Rattle.layers.specs.Layers.{layersAt};
 ghost use Rattle.layers.specs.Answers.{siteOf};
 ghost use Rattle.placement.specs.Placement.{checkRecords};
 ghost use Rattle.placement.specs.Answers.{recordsCheck};
@@ -44,7 +42,7 @@ fn check_rows(
         ≡ verdict (fedRowsChecked (siteOf base) at (tableFeeders table) (layersAt (base .r) (take layers heads) (drop at (now (bytes .entry))))) ⌝ }
 {
     let r = base.r;
-    let rows = layers_code::count_rows(layers, heads);
+    let rows = layers_packings::count_rows(layers, heads);
     let order = layers_code::check_ascending(bytes, at, base, rows);
     if let Verdict::Refused(e) = order {
         return Verdict::Refused(e);
@@ -53,7 +51,7 @@ fn check_rows(
     if let Verdict::Refused(e) = service {
         return Verdict::Refused(e);
     }
-    check_feeders(bytes, at, r, table, layers, heads)
+    feeders_packings::check_feeders(bytes, at, r, table, layers, heads)
 }
 
 // The rows of kind 6, which start at `at`, and the feeders after them.
@@ -71,7 +69,7 @@ pub(crate) fn check_fed(
     let n = base.n;
     let r = base.r;
     let s = terms.s;
-    let rows = layers_code::count_rows(s, heads);
+    let rows = layers_packings::count_rows(s, heads);
     let end = at + rows * r;
     if bytes.len() < end {
         return refuse(Refusal::Ended(bytes.len()));

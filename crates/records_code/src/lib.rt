@@ -1,7 +1,5 @@
 // Checking a placement's rows and, in kind 6, the feeders after them.
 mod fed;
-mod feeders;
-mod units;
 
 use fed::check_fed;
 use layers::Base;

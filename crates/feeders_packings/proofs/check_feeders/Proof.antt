@@ -1,15 +1,15 @@
--- `records_code::feeders::check_feeders` meets its contract, over the rows of feeders that are put into the buffer and their tests. Assumes
+-- `feeders_packings::check_feeders` meets its contract, over the rows of feeders that are put into the buffer and their tests. Assumes
 -- nothing.
 use Prim.Native.Nat.{ℕ, _+_, _*_, _≤_}
 use native.Mathlib.Omega.{arith}
 use mathlib.Core.Path.{sym, _∙_, ap}
 use lib.ListN.{length, length-replicate}
 use Rattle.layers.proofs.Listing.{length-nodesArray}
-use Rattle.layers_code.proofs.RowsAnswers.{rows-small}
-use Rattle.records_code.proofs.UnitAnswers.{feeders-checked, nodes-below-255}
+use Rattle.layers_packings.proofs.AllRows.{rows-small}
+use Rattle.feeders_packings.proofs.UnitAnswers.{feeders-checked, nodes-below-255}
 use borrow.Author.Needs.{needs}
-use Rattle.records_code.proofs.feeders.check_feeders.Statement.{statement}
-use Rattle.records_code.proofs.feeders.check_feeders.Tie as tie
+use Rattle.feeders_packings.proofs.check_feeders.Statement.{statement}
+use Rattle.feeders_packings.proofs.check_feeders.Tie as tie
 
 count-rows-requires : tie.Need-count-rows-requires
 count-rows-requires c κs =

@@ -1,4 +1,4 @@
--- `placement_code::terms::read_terms` meets its contract: each return is a case of `readTerms`, over what the readings of the
+-- `terms_code::read_terms` meets its contract: each return is a case of `readTerms`, over what the readings of the
 -- numbers ensure. Assumes nothing.
 use Prim.Native.Nat.{_-_}
 use mathlib.Core.Path.{_≡_, sym, _∙_, ap}
@@ -7,10 +7,10 @@ use Rattle.number.specs.Numbers.{readWithin}
 use Rattle.number.proofs.Within.{was-read, was-refused}
 use Rattle.layers.specs.Answers.{siteOf}
 use Rattle.placement.specs.Answers.{termsRead}
-use Rattle.placement_code.proofs.terms.Cases.{no-s, no-k, no-b, no-figure, all-read}
+use Rattle.terms_code.proofs.Cases.{no-s, no-k, no-b, no-figure, all-read}
 use borrow.Author.Needs.{needs}
-use Rattle.placement_code.proofs.terms.read_terms.Statement.{statement}
-use Rattle.placement_code.proofs.terms.read_terms.Tie as tie
+use Rattle.terms_code.proofs.read_terms.Statement.{statement}
+use Rattle.terms_code.proofs.read_terms.Tie as tie
 
 read-within-requires : tie.Need-read-within-requires
 read-within-requires c κs = search needs

@@ -1,11 +1,11 @@
--- `records_code::feeders::put_feeders` meets its contract: the part of the buffer that it lends comes back with the rows. Assumes nothing.
+-- `feeders_packings::put_feeders` meets its contract: the part of the buffer that it lends comes back with the rows. Assumes nothing.
 use native.Mathlib.Omega.{arith}
 use lib.ListN.{length-drop}
 use Rattle.lists.proofs.Writing.{take-drop-rest}
-use Rattle.records_code.proofs.UnitAnswers.{put-back}
+use Rattle.feeders_packings.proofs.UnitAnswers.{put-back}
 use borrow.Author.Needs.{needs}
-use Rattle.records_code.proofs.feeders.put_feeders.Statement.{statement}
-use Rattle.records_code.proofs.feeders.put_feeders.Tie as tie
+use Rattle.feeders_packings.proofs.put_feeders.Statement.{statement}
+use Rattle.feeders_packings.proofs.put_feeders.Tie as tie
 
 sub-feeder-rows : tie.Need-sub-feeder-rows
 sub-feeder-rows c = search needs

@@ -30,7 +30,7 @@ fn refuse(e: Refusal) -> TermsRead
 }
 
 // The numbers from `at` on with the place after them, or refusal 1, 2 or 4.
-pub(crate) fn read_terms(bytes: &[u8], base: Base, at: usize) -> TermsRead
+pub fn read_terms(bytes: &[u8], base: Base, at: usize) -> TermsRead
     requires { ⌜ 1 ≤ base .n ⌝ }
     ensures { λ read. ⌜ read ≡ termsRead (readTerms (siteOf base) (now (bytes .entry)) at) ⌝ }
 {

@@ -1,8 +1,10 @@
 // The feeders of all rows: refusals 21 and 7.
-use crate::units::check_units;
+mod units;
+
 use layers::LayerHead;
 use placement::FeederTable;
 use refusal::Verdict;
+use units::check_units;
 ghost use mathlib.Core.Path.{_≡_};
 ghost use Prim.Native.Nat.{_+_, _*_, _≤_, _<_};
 ghost use lib.ListN.{length, take, drop};
@@ -22,7 +24,7 @@ fn put_feeders(bytes: &[u8], at: usize, r: usize, rows: usize, each: &[u8], fed:
 
 // Refusals 21 and 7 over rows that are in order and start at `at`. The rows of feeders are put at the same place of a buffer, so
 // that what is found there is found where the row stands in the file.
-pub(crate) fn check_feeders(
+pub fn check_feeders(
     bytes: &[u8],
     at: usize,
     r: usize,
@@ -36,7 +38,7 @@ pub(crate) fn check_feeders(
 {
     let number = table.number;
     let each = table.each;
-    let rows = layers_code::count_rows(layers, heads);
+    let rows = layers_packings::count_rows(layers, heads);
     let mut fed = [0u8; 21572];
     put_feeders(bytes, at, r, rows, &each, &mut fed);
     check_units(&fed, at, r, number, layers, heads)

@@ -1,4 +1,4 @@
--- `records_code::units::check_units` meets its contract, over the first row that does not ascend and the packing test. Assumes nothing.
+-- `feeders_packings::units::check_units` meets its contract, over the first row that does not ascend and the packing test. Assumes nothing.
 use Prim.Native.Nat.{_+_, _*_, _-_, _≤_}
 use native.Mathlib.Omega.{arith}
 use mathlib.Core.Path.{_≡_, _∙_, ap}
@@ -6,11 +6,11 @@ use lib.ListN.{length, take, drop, length-drop}
 use Rattle.lists.proofs.Writing.{take-drop-rest}
 use Rattle.refusal.specs.declared.Refusal.the-variants.{SharedFeeder}
 use Rattle.refusal.specs.declared.Verdict.the-variants.{Refused}
-use Rattle.layers_code.proofs.RowsAnswers.{rows-small}
-use Rattle.records_code.proofs.UnitAnswers.{shared-place, shared-refused, units-ascend, units-left}
+use Rattle.layers_packings.proofs.AllRows.{rows-small}
+use Rattle.feeders_packings.proofs.UnitAnswers.{shared-place, shared-refused, units-ascend, units-left}
 use borrow.Author.Needs.{needs}
-use Rattle.records_code.proofs.units.check_units.Statement.{statement}
-use Rattle.records_code.proofs.units.check_units.Tie as tie
+use Rattle.feeders_packings.proofs.units.check_units.Statement.{statement}
+use Rattle.feeders_packings.proofs.units.check_units.Tie as tie
 
 count-rows-requires : tie.Need-count-rows-requires
 count-rows-requires c κs =

@@ -30,7 +30,7 @@ use Rattle.layers.specs.Layers.{Layer, sizes, allRows, headsOf, layersAt, check
 use Rattle.layers.specs.Asked.{Ascending}
 use Rattle.layers.specs.declared.LayerHead.{LayerHead}
 use Rattle.layers.proofs.Layouts.{headsOf-layersAt, flatten-layersAt, layersAt-flatten}
-use Rattle.layers_code.proofs.RowsAnswers.{allRows-layersAt}
+use Rattle.layers_packings.proofs.AllRows.{allRows-layersAt}
 use Rattle.placement.specs.Feeders.{Feeders, feederRow, unitLayers, shares, checkApart}
 use Rattle.placement.specs.Answers.{tableOf, rowByTable, rowsByTable}
 use Rattle.placement.specs.Asked.{FeedersAsked, FeedersPut, tableFeeders, unitsChecked, feedersChecked}
@@ -38,7 +38,7 @@ use Rattle.placement.specs.declared.FeederTable.{FeederTable}
 use Rattle.placement.proofs.Ordered.{length-ordered}
 use Rattle.placement.proofs.FeederRows.{first-bad-is-sharing, feeder-allRows, unit-heads}
 use Rattle.placement.proofs.TableRows.{rowsByTable-are, nodes-below}
-use Rattle.records_code.proofs.FedAnswers.{same-feeders}
+use Rattle.feeders_packings.proofs.TableFeeders.{same-feeders}
 
 -- What the buffer's rows give.
 module _ (number r at rows : ℕ) (heads : List LayerHead) (fed part : List ℕ) (is : part ≡ drop at fed) (count : rows ≡ sizes heads)

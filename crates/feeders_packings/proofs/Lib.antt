@@ -1,0 +1,2 @@
+pub mod TableFeeders
+pub mod UnitAnswers

@@ -1,0 +1,25 @@
+// The packing test of the layers, and what its callers ask beside it: how many rows layers have, and where a row starts.
+mod packings;
+mod place;
+
+use layers::LayerHead;
+pub use packings::check_packings;
+pub use place::row_start;
+ghost use mathlib.Core.Path.{_≡_};
+ghost use Prim.Native.Nat.{_≤_};
+ghost use lib.ListN.{take};
+ghost use Rattle.layers.specs.Layers.{sizes};
+
+// How many rows the first layers have.
+pub fn count_rows(layers: usize, heads: [LayerHead; 5]) -> usize
+    requires { ⌜ (layers ≤ 5) × (sizes (take layers heads) ≤ 4096) ⌝ }
+    ensures { λ r. ⌜ r ≡ sizes (take layers heads) ⌝ }
+{
+    let mut sum: usize = 0;
+    let mut x: usize = 0;
+    while x < layers {
+        sum += heads[x].size;
+        x += 1;
+    }
+    sum
+}
