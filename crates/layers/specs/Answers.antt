@@ -1,10 +1,13 @@
--- The answers of reading heads as values of the code's types. Assumes nothing.
+-- The answers of reading heads as values of the code's types, and what the code's answer of a row says. Assumes nothing.
 use Prim.Native.Nat.{ℕ, _≤_, _<_}
 use mathlib.Core.List.{List, [], _∷_, _++_}
 use lib.ListN.{length, take, replicate}
 use Rattle.lists.specs.Lists.{All}
 use Rattle.refusal.specs.declared.Verdict.the-variants.{Good, Refused}
 use Rattle.refusal.specs.Checked.{Checked, accepted, refused}
+use Rattle.refusal.specs.Refusals.{Outcome, result}
+use Rattle.packing.specs.declared.RowFound.{RowFound}
+use Rattle.packing.specs.declared.RowFound.the-variants.{At, Nothing}
 use Rattle.layers.specs.Layers.{Site, NodesReading, BaseReading, LayerHeads}
 use Rattle.layers.specs.declared.Base.{Base}
 use Rattle.layers.specs.declared.Dark.{Dark}
@@ -62,3 +65,8 @@ baseRead (refused e) = record { verdict = Refused e; kind = 0; base = baseOf (re
 abbrev pub layersRead : Checked LayerHeads → LayersRead
 layersRead (accepted layers) = record { verdict = Good; heads = fiveHeads (layers .heads); next = layers .next }
 layersRead (refused e) = record { verdict = Refused e; heads = fiveHeads []; next = 0 }
+
+-- the value is the row's record number; there is none where no row was found
+abbrev pub rowOutcome : RowFound → Outcome
+rowOutcome (At row) = result (row .0 ∷ [])
+rowOutcome Nothing = result []

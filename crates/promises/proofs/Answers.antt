@@ -13,9 +13,9 @@ use Rattle.refusal.specs.Refusals.{result, numberOf}
 use Rattle.refusal.specs.Checked.{Checked, accepted, refused, outcome, written, verdict, verdictOutcome, writing, writingOutcome}
 use Rattle.number.specs.declared.Reading.{Reading}
 use Rattle.number.specs.Answers.{numberRead, readOutcome, numberWritten, writtenOutcome}
-use Rattle.packing.specs.Answers.{rowFound, rowOutcome}
+use Rattle.packing.specs.Answers.{rowFound}
 use Rattle.layers.specs.Layers.{Located, NodesReading, BaseReading, LayerHeads}
-use Rattle.layers.specs.Answers.{darkRead, baseRead, layersRead}
+use Rattle.layers.specs.Answers.{darkRead, baseRead, layersRead, rowOutcome}
 use Rattle.pack.specs.Pack.{Pack, readPack}
 use Rattle.pack.proofs.Accepted.{pack-told}
 use Rattle.pack.specs.Answers.{packChecked, packOutcome, packValues}
