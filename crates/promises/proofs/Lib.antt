@@ -5,6 +5,7 @@ pub mod Planned
 pub mod Programs
 pub mod Answers
 pub mod Refusals
+pub mod RefusalsOfPlanning
 pub mod Requests
 pub mod RequestC
 pub mod RequestD
