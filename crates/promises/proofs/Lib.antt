@@ -6,6 +6,7 @@ pub mod Programs
 pub mod Answers
 pub mod Refusals
 pub mod RefusalsOfPlanning
+pub mod RefusalsOfHeads
 pub mod Requests
 pub mod RequestC
 pub mod RequestD
