@@ -119,13 +119,14 @@ e-answer (refused e) = refl
 pub e-unchanged : (e : Refusal) (out out-left : List ℕ) (given : Joined) → JoinDone (refused e) out out-left given → out-left ≡ out
 e-unchanged e out out-left given done = done .output-after
 
--- What 13 is not given for, in its words: every pack has the first one's r, and the joined nodes are at most 255, the joined rows 4,096
--- and every joined mu 4,096.
+-- the largest is at most what every number is at most
 largest-within : (l : List ℕ) (m : ℕ) → All (λ v. v ≤ m) l → largest l ≤ m
 unfolding largest
 largest-within [] m h = omega arith
 largest-within (n ∷ l) m h = omega (arith, h .0, largest-within l m (h .1))
 
+-- What 13 is not given for, in its words: every pack has the first one's r, and the joined nodes are at most 255, the joined rows 4,096
+-- and every joined mu 4,096.
 pub e-joinable : (packs : List Pack) → T (joinable packs) ↔ Joins packs
 unfolding joinable
 e-joinable packs = (
