@@ -32,10 +32,14 @@ pub record Walking (rows heads counts next₀ next : List ℕ) (v : ℕ) : Type 
 pub walking-start : {rows heads counts next₀ : List ℕ} {v : ℕ} → v ≤ 256 → Walking rows heads counts next₀ next₀ v
 walking-start few = record { nodes = few; all-next = refl; stay = λ u lt. refl; kept = λ v empty p le. refl }
 
+pub walking-down : {rows heads counts next₀ next : List ℕ} {n v : ℕ} → n ≤ v → Walking rows heads counts next₀ next v
+    → Walking rows heads counts next₀ next n
+walking-down le h =
+    record { nodes = omega (arith, h .nodes); all-next = h .all-next; stay = λ u lt. h .stay u (omega arith); kept = h .kept }
+
 pub walking-skip : {rows heads counts next₀ next : List ℕ} {v : ℕ} → Walking rows heads counts next₀ next v
     → Walking rows heads counts next₀ next (v - 1)
-walking-skip h =
-    record { nodes = omega (arith, h .nodes); all-next = h .all-next; stay = λ u lt. h .stay u (omega arith); kept = h .kept }
+walking-skip h = walking-down (omega arith) h
 
 module _ {rows : List ℕ} {search : Search} {heads counts next₀ : List ℕ} (pre : LevelToVisit rows search heads counts next₀) where
   -- no node above the highest has a chain

@@ -1,6 +1,6 @@
 -- A step for each node, the largest first: where it changes nothing, and where two steps are the same. Assumes nothing.
 use Prim.Native.Nat.{ℕ, zero, suc, _-_, _≤_, _<_}
-use mathlib.Core.Path.{_≡_, refl, ap, _∙_}
+use mathlib.Core.Path.{_≡_, refl, sym, ap, _∙_}
 use mathlib.Core.Bool.{Bool, true, false}
 use native.Mathlib.Omega.{arith}
 use lib.Dec.{leb}
@@ -27,6 +27,12 @@ over-from f m (suc v) least le same = go (leb m v) refl (λ le. over-from f m v 
     go false e ih =
         let all : m ≡ suc v = omega (arith, leb-false m v e) in
         rw all
+
+-- node n is next where the steps between n and m change nothing
+pub over-down : (f : ℕ → ℕ → ℕ) (n m least : ℕ) → n < m → ((v : ℕ) → n < v → v < m → f v least ≡ least)
+    → overNodes f n (f n least) ≡ overNodes f m least
+unfolding overNodes
+over-down f n m least lt same = sym (over-from f (suc n) m least lt same)
 
 pub over-same : (f : ℕ → ℕ → ℕ) (n least : ℕ) → ((v : ℕ) → v < n → f v least ≡ least) → overNodes f n least ≡ least
 unfolding overNodes

@@ -1,6 +1,6 @@
 -- The loop of `children`: a level's nodes are visited, the largest first, and a chain no longer than the bound needs no visit.
 -- Assumes nothing.
-use Prim.Native.Nat.{ℕ, _+_, _-_, _≤_, _<_}
+use Prim.Native.Nat.{ℕ, suc, _+_, _-_, _≤_, _<_}
 use mathlib.Core.Path.{_≡_, sym, ap, _∙_}
 use mathlib.Core.List.{List}
 use native.Mathlib.Omega.{arith}
@@ -8,10 +8,10 @@ use lib.ListN.{length, getD}
 use Rattle.packing.specs.declared.Record.{Record}
 use Rattle.crowding.specs.declared.Search.{Search}
 use Rattle.crowding.specs.Tails.{overNodes, lowestCrowded}
-use Rattle.crowding.specs.Chains.{tailsAt, chain, lowestChild}
+use Rattle.crowding.specs.Chains.{tailsAt, chain, lowestChild, ShortFrom}
 use Rattle.crowding.specs.Visiting.{ChainToVisit, ChainVisited, LevelToVisit, LevelVisited}
-use Rattle.crowding.proofs.LevelWalk.{Walking, chainAt, walking-start, walking-skip, none-above, walking-chain, walking-next}
-use Rattle.crowding.proofs.OverNodes.{over-next, over-from, over-same}
+use Rattle.crowding.proofs.LevelWalk.{Walking, chainAt, walking-start, walking-down, none-above, walking-chain, walking-next}
+use Rattle.crowding.proofs.OverNodes.{over-down, over-from, over-same}
 use Rattle.crowding.proofs.TailsFew.{lowest-few}
 use Rattle.crowding.proofs.Times.{length-tails}
 
@@ -50,31 +50,44 @@ module _ {rows : List ℕ} {search : Search} {heads counts next₀ : List ℕ} (
       kept = h .walk .kept;
     }
 
-    module _ (some : 0 < v) where
-      pub visiting-skip : getD counts (v - 1) 0 ≤ search .bound
-          → Visiting rows search heads counts next₀ least₀ next (v - 1) found
+    -- node n is next, and no chain between n and v is longer than the bound
+    module _ {n : ℕ} (below : n < v) (short : ShortFrom (suc n) v (search .bound) counts) where
+      next-one : suc n - 1 ≡ n
+      next-one = omega arith
+
+      -- what is left is node n, and then the nodes below it
+      next-node : overNodes (visited rows search heads counts next₀) n (visited rows search heads counts next₀ n (found .0))
+          ≡ lowestChild (search .level .w) (search .bound) (search .level .r) rows heads counts next₀ (least₀ .0)
+      next-node =
+          over-down (visited rows search heads counts next₀) n v (found .0) below
+          (λ u lt le. visited-same rows search heads counts next₀ u (found .0) (short u lt le))
+          ∙ h .lowest
+
+      pub visiting-skip : getD counts n 0 ≤ search .bound → Visiting rows search heads counts next₀ least₀ next n found
       visiting-skip few = record {
-        walk = walking-skip (h .walk);
-        lowest = ap (overNodes (visited rows search heads counts next₀) (v - 1))
-            (sym (visited-same rows search heads counts next₀ (v - 1) (found .0) few))
-            ∙ over-next (visited rows search heads counts next₀) v (found .0) some
-            ∙ h .lowest;
+        walk = walking-down (omega arith) (h .walk);
+        lowest = ap (overNodes (visited rows search heads counts next₀) n)
+            (sym (visited-same rows search heads counts next₀ n (found .0) few))
+            ∙ next-node;
       }
 
-      module _ (many : search .bound < getD counts (v - 1) 0) where
-        pub visiting-chain : ChainToVisit rows search (chainAt heads counts (v - 1)) next
-        visiting-chain = walking-chain pre (h .walk) some many
+      module _ (many : search .bound < getD counts n 0) where
+        many-there : search .bound < getD counts (suc n - 1) 0
+        many-there = rw next-one many
+
+        pub visiting-chain : ChainToVisit rows search (chainAt heads counts n) next
+        visiting-chain = rw next-one at (walking-chain pre (walking-down below (h .walk)) (omega arith) many-there)
 
         pub visiting-next : {last : List ℕ} {low : Record}
-            → ChainVisited rows search (chainAt heads counts (v - 1)) next found last low → length last ≡ length next
-            → Visiting rows search heads counts next₀ least₀ last (v - 1) low
+            → ChainVisited rows search (chainAt heads counts n) next found last low → length last ≡ length next
+            → Visiting rows search heads counts next₀ least₀ last n low
         visiting-next {last} {low} done same = record {
-          walk = walking-next pre (h .walk) some many (done .kept) same;
-          lowest = ap (overNodes (visited rows search heads counts next₀) (v - 1))
+          walk = rw next-one at
+              (walking-next pre (walking-down below (h .walk)) (omega arith) many-there {last = last} (rw next-one (done .kept)) same);
+          lowest = ap (overNodes (visited rows search heads counts next₀) n)
               (done .lowest
               ∙ ap
               (λ (l : List ℕ). lowestCrowded (search .level .w) (search .bound) (tailsAt (search .level .r) rows l) (found .0))
-              (h .walk .stay (v - 1) (omega arith)))
-              ∙ over-next (visited rows search heads counts next₀) v (found .0) some
-              ∙ h .lowest;
+              (h .walk .stay n below))
+              ∙ next-node;
         }

@@ -83,6 +83,10 @@ AtMost m l = (i : ℕ) → getD l i 0 ≤ m
 abbrev pub EmptyBelow : (v : ℕ) (counts : List ℕ) → Type 0
 EmptyBelow v counts = (u : ℕ) → u < v → getD counts u 0 ≡ 0
 
+-- no chain of the nodes from `from` to `to` is longer than the bound
+abbrev pub ShortFrom : (from to bound : ℕ) (counts : List ℕ) → Type 0
+ShortFrom from to bound counts = (u : ℕ) → from ≤ u → u < to → getD counts u 0 ≤ bound
+
 -- none of the positions from `from` to `to` is in a chain
 abbrev pub Fresh : (from to : ℕ) (heads counts next : List ℕ) → Type 0
 Fresh from to heads counts next = (v : ℕ) → All (Outside from to) (chain heads counts next v)

@@ -65,7 +65,7 @@ pub(crate) fn children(
     let mut v = high.0 as usize + 1;
     let mut found = least;
     while v > first {
-        v -= 1;
+        v = crate::long::next_long(counts, first, v, bound);
         let count = counts[v];
         if count as usize <= bound {
             continue;

@@ -8,15 +8,12 @@ use Rattle.crowding_search.proofs.visits.visit.Reads as visit
 use Rattle.crowding_search.proofs.visits.+children+visit.Lts-visit as visit-lts
 use Rattle.crowding_search.proofs.visits.+children+visit.{statement}
 use Rattle.crowding_search.proofs.visits.+children+visit.Tie.{close}
-use Rattle.crowding_search.proofs.visits.+children+visit.Proof.Measures.{μ-children, μ-visit, children-at, visit-at, visit-below, callees}
+use Rattle.crowding_search.proofs.visits.+children+visit.Proof.Measures.{μ-children, μ-visit, children-at, visit-at, callees-of-children, callees-of-visit}
 use Rattle.crowding_search.proofs.visits.+children+visit.Proof.Children as of-children
 use Rattle.crowding_search.proofs.visits.+children+visit.Proof.Visit as of-visit
 
 pub +children+visit-spec : {M : Type 1} → statement M
-+children+visit-spec = close μ-children μ-visit (λ t. children-lts.spec (
-  visit-below t,
-  visit.Post,
-)
++children+visit-spec = close μ-children μ-visit (λ t. children-lts.spec (callees-of-children t)
     (children-at t)
     children.Post
     of-children.Inv-loop
@@ -25,7 +22,7 @@ pub +children+visit-spec : {M : Type 1} → statement M
     (of-children.cast-v t)
     (of-children.add-v t)
     (of-children.loop-holds t)
-    (of-children.sub-v t)
+    (of-children.next-long-requires t)
     (of-children.mul-count t)
     (of-children.shared-slice-read-count t)
     (of-children.cast-if1 t)
@@ -38,7 +35,7 @@ pub +children+visit-spec : {M : Type 1} → statement M
     (of-children.loop-again-2 t)
     (of-children.same-length t)
     (of-children.returns t))
-    λ t. visit-lts.spec (callees t)
+    λ t. visit-lts.spec (callees-of-visit t)
     (visit-at t)
     visit.Post
     (of-visit.lowest-requires t)

@@ -7,7 +7,9 @@ use Rattle.crowding_search.proofs.visits.children.Reads as children
 use Rattle.crowding_search.proofs.visits.children.Kinds as children-kinds
 use Rattle.crowding_search.proofs.visits.visit.Reads as visit
 use Rattle.crowding_search.proofs.visits.visit.Kinds as visit-kinds
+use Rattle.crowding_search.proofs.visits.+children+visit.Lts-children as children-lts
 use Rattle.crowding_search.proofs.visits.+children+visit.Lts-visit as visit-lts
+use Rattle.crowding_search.proofs.long.next_long.Reads as next-long-reads
 use Rattle.crowding_counts.proofs.most_after.Reads as most-after-reads
 use Rattle.crowding_chains.proofs.link_tails.Reads as link-tails-reads
 use Rattle.crowding_extremes.proofs.lowest.Reads as lowest-reads
@@ -28,11 +30,14 @@ children-below t =
 abbrev pub visit-at : ℕ → In 2 visit-kinds.ps
 visit-at t = and 2 visit-kinds.ps (is 2 visit-kinds.ps μ-visit t) visit.Pre
 
-abbrev pub visit-below : ℕ → In 2 visit-kinds.ps
+abbrev visit-below : ℕ → In 2 visit-kinds.ps
 visit-below t = and 2 visit-kinds.ps (falls 2 visit-kinds.ps _<_ μ-visit t) visit.Pre
 
-abbrev pub callees : ℕ → visit-lts.Claims
-callees t = (
+abbrev pub callees-of-children : ℕ → children-lts.Claims
+callees-of-children t = (next-long-reads.Asked, next-long-reads.Learnt, visit-below t, visit.Post)
+
+abbrev pub callees-of-visit : ℕ → visit-lts.Claims
+callees-of-visit t = (
   lowest-reads.Asked,
   lowest-reads.Learnt,
   most-after-reads.Asked,

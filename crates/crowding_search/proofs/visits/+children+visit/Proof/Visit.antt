@@ -7,11 +7,11 @@ use borrow.Fn.Kinds.{In, Out}
 use Rattle.crowding_search.proofs.visits.visit.Reads as visit
 use Rattle.crowding_search.proofs.visits.visit.Kinds as visit-kinds
 use Rattle.crowding_search.proofs.visits.+children+visit.Lts-visit as lts
-use Rattle.crowding_search.proofs.visits.+children+visit.Proof.Measures.{visit-at, callees}
+use Rattle.crowding_search.proofs.visits.+children+visit.Proof.Measures.{visit-at, callees-of-visit}
 
 -- a place of the code, or what is needed there
 abbrev At : (t : ℕ) → (lts.Claims → In 2 visit-kinds.ps → Out 2 visit-kinds.ps visit-kinds.r → Type 0) → Type 0
-At t place = place (callees t) (visit-at t) visit.Post
+At t place = place (callees-of-visit t) (visit-at t) visit.Post
 
 module _ (t : ℕ) where
   -- what the call was given
