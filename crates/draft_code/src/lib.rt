@@ -17,7 +17,7 @@ pub fn write_draft(head: &[usize], rows: &[u8], out: &mut [u8]) -> usize
     ensures { λ at. ⌜ (at ≡ length (formsOf (now (head .entry))))
         × (now (out .exit) ≡ overStart (formsOf (now (head .entry)) ++ now (rows .entry)) (now (out .entry))) ⌝ }
 {
-    let at = number_code::write_numbers(out, head);
+    let at = number_writer::write_numbers(out, head);
     rows_writer::copy_bytes(&mut out[at..], rows);
     at
 }

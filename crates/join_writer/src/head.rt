@@ -42,7 +42,7 @@ fn write_own(out: &mut [u8], r: usize, heads: [LayerHead; 5]) -> usize
 {
     let head = layer_numbers(heads);
     let numbers = 2 * r;
-    number_code::write_numbers(out, &head[0..numbers])
+    number_writer::write_numbers(out, &head[0..numbers])
 }
 
 // Writes a pack's head to the start of `out`: kind 4, n, r and the nodes out of service, then the two numbers of each layer

@@ -14,7 +14,7 @@ fn write_four(out: &mut [u8], numbers: [usize; 4]) -> usize
     ensures { λ taken. ⌜ (taken ≡ length (formsOf numbers))
         × (now (out .exit) ≡ overStart (formsOf numbers) (now (out .entry))) ⌝ }
 {
-    number_code::write_numbers(out, &numbers[0..4])
+    number_writer::write_numbers(out, &numbers[0..4])
 }
 
 // Writes the first `count` of the nodes to the start of `out`. Returns how many bytes they take.
@@ -25,7 +25,7 @@ fn write_nodes(out: &mut [u8], count: usize, nodes: [usize; 255]) -> usize
     ensures { λ taken. ⌜ (taken ≡ length (formsOf (take count nodes)))
         × (now (out .exit) ≡ overStart (formsOf (take count nodes)) (now (out .entry))) ⌝ }
 {
-    number_code::write_numbers(out, &nodes[0..count])
+    number_writer::write_numbers(out, &nodes[0..count])
 }
 
 // Writes the kind, n, r, how many nodes are out of service and their numbers to the start of `out`. Returns how many bytes they

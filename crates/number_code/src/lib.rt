@@ -2,7 +2,6 @@
 mod reader;
 mod within;
 
-pub use number_writer::write_numbers;
 pub use reader::read_number;
 pub use within::read_within;
 pub use within::refusal_of;

@@ -47,7 +47,7 @@ fn write_own(out: &mut [u8], order: Order, figure: usize, heads: [LayerHead; 5])
     let s = order.s;
     let head = own_numbers(order, figure, heads);
     let numbers = 4 + 2 * s;
-    number_code::write_numbers(out, &head[0..numbers])
+    number_writer::write_numbers(out, &head[0..numbers])
 }
 
 // Writes a placement's head to the start of `out`: kind 5, n, r and the nodes out of service, then its own numbers. Returns how
