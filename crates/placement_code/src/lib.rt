@@ -1,4 +1,7 @@
 // Checking placements.
+mod fed;
+mod records;
+
 use layers::Dark;
 use layers::FileKind;
 use layers::LayerHead;
@@ -70,7 +73,7 @@ pub fn check_placement(bytes: &[u8]) -> PlacementCheck
     }
     let layers = numbers.heads;
     let first = numbers.next;
-    let records = records_code::check_records(bytes, first, kind, base, t, layers);
+    let records = records::check_records(bytes, first, kind, base, t, layers);
     let rows_verdict = records.verdict;
     if let Verdict::Refused(e) = rows_verdict {
         return refuse(e);

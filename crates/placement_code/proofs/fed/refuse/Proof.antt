@@ -1,8 +1,8 @@
--- `records_code::fed::refuse` meets its contract: no feeders beside the refusal. Assumes nothing.
+-- `placement_code::fed::refuse` meets its contract: no feeders beside the refusal. Assumes nothing.
 use mathlib.Core.Path.{refl}
 use Rattle.layers.proofs.Listing.{nodesArray-nil}
-use Rattle.records_code.proofs.fed.refuse.Statement.{statement}
-use Rattle.records_code.proofs.fed.refuse.Tie as tie
+use Rattle.placement_code.proofs.fed.refuse.Statement.{statement}
+use Rattle.placement_code.proofs.fed.refuse.Tie as tie
 
 returns : tie.Need-returns
 returns c = rw (← nodesArray-nil) refl

@@ -1,8 +1,8 @@
--- `records_code::check_records` meets its contract: kind 6 is checked apart, and every other kind as its rows are. Assumes nothing.
+-- `placement_code::records::check_records` meets its contract: kind 6 is checked apart, and every other kind as its rows are. Assumes nothing.
 use borrow.Author.Tests.{ne-eqb}
-use Rattle.records_code.proofs.Unfed.{unfed-answer}
-use Rattle.records_code.proofs.check_records.Statement.{statement}
-use Rattle.records_code.proofs.check_records.Tie as tie
+use Rattle.placement_code.proofs.Unfed.{unfed-answer}
+use Rattle.placement_code.proofs.records.check_records.Statement.{statement}
+use Rattle.placement_code.proofs.records.check_records.Tie as tie
 
 check-fed-requires : tie.Need-check-fed-requires
 check-fed-requires c κs = c .before .before .pre

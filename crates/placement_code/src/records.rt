@@ -1,7 +1,5 @@
 // Checking a placement's rows and, in kind 6, the feeders after them.
-mod fed;
-
-use fed::check_fed;
+use crate::fed::check_fed;
 use layers::Base;
 use layers::LayerHead;
 use placement::FeederTable;
@@ -16,7 +14,7 @@ ghost use Rattle.placement.specs.Asked.{RecordsAsked};
 
 // The rows of a placement of this kind, which start at `at`, and in kind 6 the feeders after them: good, or refusal 1 for the rows'
 // length, 1, 2 or 4 for a number after them, 5, 6 over all rows, 15, 21, 7.
-pub fn check_records(
+pub(crate) fn check_records(
     bytes: &[u8],
     at: usize,
     kind: usize,

@@ -1,13 +1,13 @@
--- `records_code::fed::check_rows` meets its contract: each return is a case of `fedRowsChecked`. Assumes nothing.
+-- `placement_code::fed::check_rows` meets its contract: each return is a case of `fedRowsChecked`. Assumes nothing.
 use Prim.Native.Nat.{_+_, _*_, _≤_}
 use native.Mathlib.Omega.{arith}
 use mathlib.Core.Path.{ap}
 use lib.ListN.{length}
 use Rattle.placement.specs.Asked.{tableFeeders}
-use Rattle.records_code.proofs.FedAnswers.{fed-unordered, fed-rows, fed-dark, fed-left}
+use Rattle.placement_code.proofs.FedAnswers.{fed-unordered, fed-rows, fed-dark, fed-left}
 use borrow.Author.Needs.{needs}
-use Rattle.records_code.proofs.fed.check_rows.Statement.{statement}
-use Rattle.records_code.proofs.fed.check_rows.Tie as tie
+use Rattle.placement_code.proofs.fed.check_rows.Statement.{statement}
+use Rattle.placement_code.proofs.fed.check_rows.Tie as tie
 
 count-rows-requires : tie.Need-count-rows-requires
 count-rows-requires c κs =

@@ -1,4 +1,4 @@
--- `records_code::fed::check_fed` meets its contract: each return is a case of `checkRecords` of kind 6, over what reading the feeders and
+-- `placement_code::fed::check_fed` meets its contract: each return is a case of `checkRecords` of kind 6, over what reading the feeders and
 -- testing the rows ensure. Assumes nothing.
 use Prim.Native.Nat.{_+_, _*_, _≤_}
 use native.Mathlib.Omega.{arith}
@@ -8,10 +8,10 @@ use Rattle.layers.specs.Answers.{siteOf}
 use Rattle.placement.specs.Answers.{recordsCheck}
 use Rattle.placement.specs.Feeders.{readNumbered}
 use Rattle.layers_packings.proofs.AllRows.{rows-small}
-use Rattle.records_code.proofs.FedAnswers.{read-refused, WasRead, was-read, fed-short, fed-unread, fed-fits, fed-long, fed-refused, fed-good}
+use Rattle.placement_code.proofs.FedAnswers.{read-refused, WasRead, was-read, fed-short, fed-unread, fed-fits, fed-long, fed-refused, fed-good}
 use borrow.Author.Needs.{needs}
-use Rattle.records_code.proofs.fed.check_fed.Statement.{statement}
-use Rattle.records_code.proofs.fed.check_fed.Tie as tie
+use Rattle.placement_code.proofs.fed.check_fed.Statement.{statement}
+use Rattle.placement_code.proofs.fed.check_fed.Tie as tie
 
 count-rows-requires : tie.Need-count-rows-requires
 count-rows-requires c κs =

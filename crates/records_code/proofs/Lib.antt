@@ -1,2 +1,0 @@
-pub mod Unfed
-pub mod FedAnswers
