@@ -1,6 +1,13 @@
-// The packing test on rows in bytes.
+// The packing test on rows in bytes: of one layer, and layer by layer (`packings`).
+mod packings;
+mod place;
+mod sizes;
+
 use crowding::Level;
 use packing::RowFound;
+pub use packings::check_packings;
+pub use place::row_start;
+pub use sizes::count_rows;
 ghost use mathlib.Core.Path.{_≡_};
 ghost use Prim.Native.Nat.{_+_, _*_, _≤_, _<_};
 ghost use lib.Dec.{T};

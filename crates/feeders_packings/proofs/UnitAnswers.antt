@@ -30,7 +30,7 @@ use Rattle.layers.specs.Layers.{Layer, sizes, allRows, headsOf, layersAt, check
 use Rattle.layers.specs.Asked.{Ascending}
 use Rattle.layers.specs.declared.LayerHead.{LayerHead}
 use Rattle.layers.proofs.Layouts.{headsOf-layersAt, flatten-layersAt, layersAt-flatten}
-use Rattle.layers_packings.proofs.AllRows.{allRows-layersAt}
+use Rattle.crowding_code.proofs.AllRows.{allRows-layersAt}
 use Rattle.placement.specs.Feeders.{Feeders, feederRow, unitLayers, shares, checkApart}
 use Rattle.placement.specs.Answers.{tableOf, rowByTable, rowsByTable}
 use Rattle.placement.specs.Asked.{FeedersAsked, FeedersPut, tableFeeders, unitsChecked, feedersChecked}

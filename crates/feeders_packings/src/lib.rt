@@ -38,7 +38,7 @@ pub fn check_feeders(
 {
     let number = table.number;
     let each = table.each;
-    let rows = layers_packings::count_rows(layers, heads);
+    let rows = crowding_code::count_rows(layers, heads);
     let mut fed = [0u8; 21572];
     put_feeders(bytes, at, r, rows, &each, &mut fed);
     check_units(&fed, at, r, number, layers, heads)

@@ -24,10 +24,10 @@ pub(crate) fn check_units(
     ensures { λ answer. ⌜ answer
         ≡ verdict (unitsChecked number r at (layersAt r (take layers heads) (drop at (now (fed .entry))))) ⌝ }
 {
-    let rows = layers_packings::count_rows(layers, heads);
+    let rows = crowding_code::count_rows(layers, heads);
     let shared = rows_code::first_bad(&fed[at..], rows, r, number);
     if let RowFound::At(row) = shared {
-        return Verdict::Refused(Refusal::SharedFeeder(layers_packings::row_start(at, r, row)));
+        return Verdict::Refused(Refusal::SharedFeeder(crowding_code::row_start(at, r, row)));
     }
-    layers_packings::check_packings(fed, at, r, layers, heads)
+    crowding_code::check_packings(fed, at, r, layers, heads)
 }

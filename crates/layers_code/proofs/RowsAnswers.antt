@@ -20,7 +20,7 @@ use Rattle.packing.proofs.Test.{good-iff-in-order}
 use Rattle.layers.specs.Layers.{Layer, Site, sizes, allRows, layersAt, refuseRow, checkLength, checkEnd, checkAscending, checkService, checkPackings, checkRows}
 use Rattle.layers.specs.declared.LayerHead.{LayerHead}
 use Rattle.layers.specs.Asked.{Ascending}
-use Rattle.layers_packings.proofs.AllRows.{allRows-layersAt}
+use Rattle.crowding_code.proofs.AllRows.{allRows-layersAt}
 
 -- what a last check says, with what is handed on after it
 pub verdict-left : {A : Type 0} (m : Checked Unit) (a : A) → verdict m ≡ verdict (m >>= λ u. accepted a)

@@ -31,7 +31,7 @@ pub fn check_rows(
     ensures { λ answer. ⌜ answer ≡ verdict (checkRows (siteOf base) (take layers heads) (now (bytes .entry)) at) ⌝ }
 {
     let r = base.r;
-    let rows = layers_packings::count_rows(layers, heads);
+    let rows = crowding_code::count_rows(layers, heads);
     let end = at + rows * r;
     if bytes.len() < end {
         return Verdict::Refused(Refusal::Ended(bytes.len()));
@@ -47,5 +47,5 @@ pub fn check_rows(
     if let Verdict::Refused(e) = service {
         return Verdict::Refused(e);
     }
-    layers_packings::check_packings(bytes, at, r, layers, heads)
+    crowding_code::check_packings(bytes, at, r, layers, heads)
 }

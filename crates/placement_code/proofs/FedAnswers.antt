@@ -21,7 +21,7 @@ use Rattle.packing.proofs.Test.{good-iff-in-order}
 use Rattle.layers.specs.Layers.{Layer, Site, sizes, allRows, layersAt, refuseRow, checkLength, checkEnd, checkAscending, checkService, checkPackings}
 use Rattle.layers.specs.declared.LayerHead.{LayerHead}
 use Rattle.layers.proofs.Layouts.{layersAt-lengths}
-use Rattle.layers_packings.proofs.AllRows.{allRows-layersAt}
+use Rattle.crowding_code.proofs.AllRows.{allRows-layersAt}
 use Rattle.placement.specs.Feeders.{Feeders, FeedersReading, unitLayers, readNumbered, readFeeders, checkApart}
 use Rattle.placement.specs.Placement.{Rows, checkRecords}
 use Rattle.placement.specs.Answers.{tableOf, feedersRead, recordsCheck}

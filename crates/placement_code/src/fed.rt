@@ -42,7 +42,7 @@ fn check_rows(
         ≡ verdict (fedRowsChecked (siteOf base) at (tableFeeders table) (layersAt (base .r) (take layers heads) (drop at (now (bytes .entry))))) ⌝ }
 {
     let r = base.r;
-    let rows = layers_packings::count_rows(layers, heads);
+    let rows = crowding_code::count_rows(layers, heads);
     let order = layers_code::check_ascending(bytes, at, base, rows);
     if let Verdict::Refused(e) = order {
         return Verdict::Refused(e);
@@ -69,7 +69,7 @@ pub(crate) fn check_fed(
     let n = base.n;
     let r = base.r;
     let s = terms.s;
-    let rows = layers_packings::count_rows(s, heads);
+    let rows = crowding_code::count_rows(s, heads);
     let end = at + rows * r;
     if bytes.len() < end {
         return refuse(Refusal::Ended(bytes.len()));

@@ -5,7 +5,7 @@ use native.Mathlib.Omega.{arith}
 use mathlib.Core.Path.{sym, _∙_, ap}
 use lib.ListN.{length, length-replicate}
 use Rattle.layers.proofs.Listing.{length-nodesArray}
-use Rattle.layers_packings.proofs.AllRows.{rows-small}
+use Rattle.crowding_code.proofs.AllRows.{rows-small}
 use Rattle.feeders_packings.proofs.UnitAnswers.{feeders-checked, nodes-below-255}
 use borrow.Author.Needs.{needs}
 use Rattle.feeders_packings.proofs.check_feeders.Statement.{statement}

@@ -4,7 +4,7 @@ use Prim.Native.Nat.{_+_, _*_, _^_, _≤_, _<_}
 use native.Mathlib.Omega.{arith}
 use mathlib.Core.Path.{_≡_}
 use lib.ListN.{length}
-use Rattle.layers_packings.proofs.AllRows.{rows-small}
+use Rattle.crowding_code.proofs.AllRows.{rows-small}
 use Rattle.layers_code.proofs.RowsAnswers.{rows-short, rows-long, rows-unordered, rows-ordered, rows-dark, rows-left}
 use borrow.Author.Needs.{needs}
 use Rattle.layers_code.proofs.check_rows.Statement.{statement}

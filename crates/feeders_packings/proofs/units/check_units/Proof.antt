@@ -6,7 +6,7 @@ use lib.ListN.{length, take, drop, length-drop}
 use Rattle.lists.proofs.Writing.{take-drop-rest}
 use Rattle.refusal.specs.declared.Refusal.the-variants.{SharedFeeder}
 use Rattle.refusal.specs.declared.Verdict.the-variants.{Refused}
-use Rattle.layers_packings.proofs.AllRows.{rows-small}
+use Rattle.crowding_code.proofs.AllRows.{rows-small}
 use Rattle.feeders_packings.proofs.UnitAnswers.{shared-place, shared-refused, units-ascend, units-left}
 use borrow.Author.Needs.{needs}
 use Rattle.feeders_packings.proofs.units.check_units.Statement.{statement}

@@ -7,7 +7,7 @@ use lib.ListN.{take}
 use Rattle.layers.specs.Answers.{siteOf}
 use Rattle.placement.specs.Answers.{recordsCheck}
 use Rattle.placement.specs.Feeders.{readNumbered}
-use Rattle.layers_packings.proofs.AllRows.{rows-small}
+use Rattle.crowding_code.proofs.AllRows.{rows-small}
 use Rattle.placement_code.proofs.FedAnswers.{read-refused, WasRead, was-read, fed-short, fed-unread, fed-fits, fed-long, fed-refused, fed-good}
 use borrow.Author.Needs.{needs}
 use Rattle.placement_code.proofs.fed.check_fed.Statement.{statement}

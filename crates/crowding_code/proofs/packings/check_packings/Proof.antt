@@ -1,4 +1,4 @@
--- `layers_packings::packings::check_packings` meets its contract. The loop's invariant: the first crowded row of the layers from
+-- `crowding_code::packings::check_packings` meets its contract. The loop's invariant: the first crowded row of the layers from
 -- the present one on is that of all layers. The measure is how many layers are left. Assumes nothing.
 use Prim.Native.Nat.{_+_, _*_, _-_, _≤_}
 use native.Mathlib.Omega.{arith}
@@ -8,10 +8,10 @@ use Rattle.lists.proofs.Writing.{take-drop-rest}
 use Rattle.refusal.specs.declared.Refusal.the-variants.{Crowded}
 use Rattle.refusal.specs.declared.Verdict.the-variants.{Refused}
 use Rattle.layers.specs.Answers.{noHead}
-use Rattle.layers_packings.proofs.packings.CrowdLoop.{CrowdTurn, crowd-holds, crowd-done, crowd-fits, crowd-ordered, crowd-place, crowd-found, crowd-again}
+use Rattle.crowding_code.proofs.packings.CrowdLoop.{CrowdTurn, crowd-holds, crowd-done, crowd-fits, crowd-ordered, crowd-place, crowd-found, crowd-again}
 use borrow.Author.Needs.{needs}
-use Rattle.layers_packings.proofs.packings.check_packings.Statement.{statement}
-use Rattle.layers_packings.proofs.packings.check_packings.Tie as tie
+use Rattle.crowding_code.proofs.packings.check_packings.Statement.{statement}
+use Rattle.crowding_code.proofs.packings.check_packings.Tie as tie
 
 abbrev Inv-loop : tie.InvT-loop
 Inv-loop bytes at r layers heads start₀ x₀ start x = CrowdTurn r layers heads bytes at start x

@@ -1,10 +1,5 @@
-// The packing test of the layers, and what its callers ask beside it: how many rows layers have, and where a row starts.
-mod packings;
-mod place;
-
+// How many rows layers have.
 use layers::LayerHead;
-pub use packings::check_packings;
-pub use place::row_start;
 ghost use mathlib.Core.Path.{_≡_};
 ghost use Prim.Native.Nat.{_≤_};
 ghost use lib.ListN.{take};

@@ -28,7 +28,7 @@ pub fn check_packings(
     while x < layers {
         let head = heads[x];
         let c = head.size;
-        let found = crowding_code::first_crowded(&bytes[start..], c, r, x, head.bound);
+        let found = crate::first_crowded(&bytes[start..], c, r, x, head.bound);
         if let RowFound::At(row) = found {
             return Verdict::Refused(Refusal::Crowded(row_start(start, r, row)));
         }

@@ -1,4 +1,4 @@
--- `layers_packings::count_rows` meets its contract. The loop's invariant: the sum is that of the sizes passed. Assumes nothing.
+-- `crowding_code::count_rows` meets its contract. The loop's invariant: the sum is that of the sizes passed. Assumes nothing.
 use Prim.Native.Nat.{_+_, _-_, _≤_}
 use native.Mathlib.Omega.{arith}
 use mathlib.Core.Path.{_≡_, refl, _∙_, ap}
@@ -7,8 +7,8 @@ use Rattle.lists.specs.Lists.{total}
 use Rattle.layers.specs.Layers.{sizes}
 use Rattle.layers.proofs.Arrays.{sizes-take-suc, sizes-take-le}
 use borrow.Author.Needs.{needs}
-use Rattle.layers_packings.proofs.count_rows.Statement.{statement}
-use Rattle.layers_packings.proofs.count_rows.Tie as tie
+use Rattle.crowding_code.proofs.sizes.count_rows.Statement.{statement}
+use Rattle.crowding_code.proofs.sizes.count_rows.Tie as tie
 
 abbrev Inv-loop : tie.InvT-loop
 Inv-loop layers heads sum₀ x₀ sum x = (x ≤ layers) × (sum ≡ sizes (take x heads))
