@@ -1,6 +1,6 @@
 // The order of all rows: refusal 6.
-use layers::Base;
 use crowding_code::row_start;
+use layers::Base;
 use packing::RowFound;
 use refusal::Refusal;
 use refusal::Verdict;

@@ -1,6 +1,6 @@
 // Nodes out of service in all rows: refusal 15.
-use layers::Base;
 use crowding_code::row_start;
+use layers::Base;
 use packing::RowFound;
 use refusal::Refusal;
 use refusal::Verdict;
