@@ -94,7 +94,7 @@ extern "C" {
 size_t musseltwig_check_pack(const uint8_t *pack, size_t pack_length, uint64_t *answer, size_t answer_length);
 
 /* Checks a placement.
- * Answer: 0, kind, n, r, s, k, b, F, first row's place, five lambda and c, nodes out of service; kind 6: g, feeders. */
+ * Answer: 0, kind, n, r, s, k, b, F, first row, five lambda and c, the list as check_pack's; kind 6: g, feeders. */
 size_t musseltwig_check_placement(const uint8_t *placement, size_t placement_length, uint64_t *answer,
     size_t answer_length);
 

@@ -88,8 +88,8 @@ extern "C" {
     /// Checks a pack. Answer: 0, n, r, the first block's place, mu and m of five layers, how many nodes are out of
     /// service, and these.
     pub fn musseltwig_check_pack(pack: *const u8, pack_length: usize, answer: *mut u64, answer_length: usize) -> usize;
-    /// Checks a placement. Answer: 0, kind, n, r, s, k, b, F, first row's place, five lambda and c, nodes out of
-    /// service; kind 6: g, feeders.
+    /// Checks a placement. Answer: 0, kind, n, r, s, k, b, F, first row, five lambda and c, the list as
+    /// check_pack's; kind 6: g, feeders.
     pub fn musseltwig_check_placement(
         placement: *const u8,
         placement_length: usize,
