@@ -4,12 +4,13 @@ mod place;
 mod sizes;
 
 use crowding::Level;
+use crowding_sums::Sets;
 use packing::RowFound;
 pub use packings::check_packings;
 pub use place::row_start;
 pub use sizes::count_rows;
 ghost use mathlib.Core.Path.{_≡_};
-ghost use Prim.Native.Nat.{_+_, _*_, _≤_, _<_};
+ghost use Prim.Native.Nat.{_*_, _≤_, _<_};
 ghost use lib.Dec.{T};
 ghost use lib.ListN.{length};
 ghost use Rattle.lists.specs.Lists.{All};
@@ -17,7 +18,7 @@ ghost use Rattle.packing.specs.Rows.{ascending, rowsAt, firstCrowded};
 ghost use Rattle.packing.specs.Answers.{rowFound};
 ghost use Rattle.crowding.specs.Tails.{fewLoads};
 ghost use Rattle.crowding_pairs.specs.Codes.{fewPairs};
-ghost use Rattle.crowding_sums.specs.Sums.{nodeLimit, Settles};
+ghost use Rattle.crowding_sums.specs.Sums.{Settles};
 
 // Whether the sets are of one node and no node stands in more than `bound` of the rows, by one count of the bytes.
 fn few_loads(rows: &[u8], c: usize, r: usize, x: usize, bound: usize) -> bool
@@ -46,18 +47,24 @@ fn few_pairs(rows: &[u8], c: usize, r: usize, x: usize, bound: usize) -> bool
     crowding_pairs::most_pairs(rows, c, r) <= bound
 }
 
-// How many nodes there may be for sets of x+1 nodes to be counted by their sums.
-fn node_limit(x: usize) -> usize
-    ensures { λ n. ⌜ n ≡ nodeLimit (x + 1) ⌝ }
+// The first of the rows that is crowded, by the search for a crowded set.
+fn search(rows: &[u8], c: usize, r: usize, x: usize, bound: usize) -> RowFound
+    requires { ⌜ (c ≤ 4096) × (r ≤ 5) × (x < r) × (c * r ≤ length (now rows)) ⌝ }
+    requires order { ⌜ All (λ row. T (ascending 0 row)) (rowsAt r c (now rows)) ⌝ }
+    ensures { λ found. ⌜ found ≡ rowFound (firstCrowded x bound (rowsAt r c (now (rows .entry)))) ⌝ }
 {
-    if x == 2 {
-        return 31;
+    let end = c * r;
+    let level = Level { r, w: x };
+    let least = crowding_search::least_crowded(&rows[0..end], c, level, bound);
+    if least.0 < 65536 {
+        return RowFound::At(least);
     }
-    16
+    RowFound::Nothing
 }
 
-// Whether sets of three nodes or more are of so few nodes, and the rows so many, that the sets are counted by the sums of weights, and
-// no sum comes in more than `bound` of them.
+// Whether the sets are of three nodes or more, the rows many, and none of those rows is crowded that are left when the sets are counted
+// by the sums of weights. For few rows the table would cost more than it spares; where a row has ten sets and few rows may hold one, the
+// search takes no longer for some more rows.
 fn few_sums(rows: &[u8], c: usize, r: usize, x: usize, bound: usize) -> bool
     requires { ⌜ (c ≤ 4096) × (r ≤ 5) × (x < r) × (c * r ≤ length (now rows)) ⌝ }
     requires order { ⌜ All (λ row. T (ascending 0 row)) (rowsAt r c (now rows)) ⌝ }
@@ -69,13 +76,20 @@ fn few_sums(rows: &[u8], c: usize, r: usize, x: usize, bound: usize) -> bool
     if c < 256 {
         return false;
     }
-    let end = c * r;
-    let high = crowding_extremes::highest(&rows[0..end]);
-    let n = high.0 as usize + 1;
-    if n > node_limit(x) {
+    if r == x + 3 && c < 1024 && bound < 8 {
         return false;
     }
-    crowding_sums::most_summing(rows, c, r, x + 1, n) <= bound
+    let mut kept = [0u8; 20480];
+    let sets = Sets { c, x, bound };
+    let m = crowding_sums::keep_rows(rows, r, sets, &mut kept);
+    if m <= bound {
+        return true;
+    }
+    let found = search(&kept, m, r, x, bound);
+    if let RowFound::At(_) = found {
+        return false;
+    }
+    true
 }
 
 // Refusal 7 of a layer: the first of c rows of r bytes, all ascending, that holds x+1 nodes which stand together in
@@ -97,11 +111,5 @@ pub fn first_crowded(rows: &[u8], c: usize, r: usize, x: usize, bound: usize) ->
     if few_sums(rows, c, r, x, bound) {
         return RowFound::Nothing;
     }
-    let end = c * r;
-    let level = Level { r, w: x };
-    let least = crowding_search::least_crowded(&rows[0..end], c, level, bound);
-    if least.0 < 65536 {
-        return RowFound::At(least);
-    }
-    RowFound::Nothing
+    search(rows, c, r, x, bound)
 }

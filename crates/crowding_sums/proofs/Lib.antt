@@ -1,6 +1,5 @@
 pub mod Leaving
 pub mod Left
-pub mod Weighing
 pub mod Turning
-pub mod Sets
-pub mod Rooms
+pub mod Enough
+pub mod Kept

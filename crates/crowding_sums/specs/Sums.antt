@@ -1,96 +1,106 @@
--- Sets of nodes as numbers: the sum of their nodes' weights. Assumes nothing.
-use Prim.Native.Nat.{ℕ, zero, suc, _+_, _-_, _≤_, _<_}
+-- Sets of nodes by the sums of their nodes' weights: a set stands in no more rows than its sum comes in. Assumes nothing.
+use Prim.Native.Nat.{ℕ, zero, suc, _+_, _*_, _-_, _%_, max, _≤_, _<_}
 use mathlib.Core.Path.{_≡_}
 use mathlib.Core.Bool.{Bool, true, cond}
-use mathlib.Core.List.{List, [], _∷_, map}
+use mathlib.Core.List.{List, [], _∷_}
 use mathlib.Core.Option.{none}
 use lib.ListN.{length, getD}
-use lib.Dec.{T, eqb, leb}
-use Rattle.lists.specs.Lists.{All, tally, count, total, largest, upTo}
-use Rattle.packing.specs.Rows.{inOrder, rowsAt, subsets, firstCrowded}
+use lib.Dec.{T, eqb, ltb}
+use Rattle.lists.specs.Lists.{All, tally}
+use Rattle.packing.specs.Rows.{ascending, rowsAt, firstCrowded}
 use Rattle.crowding.specs.Chains.{AtMost}
 use Rattle.crowding_pairs.specs.Codes.{RowsFit}
-
--- powers of two: no two sets of 16 nodes have one sum
-abbrev pub powers : List ℕ
-powers = 1 ∷ 2 ∷ 4 ∷ 8 ∷ 16 ∷ 32 ∷ 64 ∷ 128 ∷ 256 ∷ 512 ∷ 1024 ∷ 2048 ∷ 4096 ∷ 8192 ∷ 16384 ∷ 32768 ∷ []
-
--- no two sets of three of 31 nodes have one sum, and each sum of three is below 65,536
-abbrev pub apart : List ℕ
-apart =
-    0 ∷ 961 ∷ 1714 ∷ 1725 ∷ 2642 ∷ 4929 ∷ 5471 ∷ 5530 ∷ 5702 ∷ 6756 ∷ 7650 ∷ 10018 ∷ 10522 ∷ 10759 ∷ 12410 ∷ 12794 ∷ 13004 ∷ 14003
-    ∷ 15171 ∷ 15554 ∷ 16183 ∷ 16451 ∷ 17784 ∷ 17961 ∷ 18852 ∷ 19800 ∷ 20145 ∷ 20475 ∷ 20906 ∷ 21092 ∷ 21398 ∷ []
-
--- the weights of n nodes, and how many cells a table of their sums has
-abbrev pub weightsOf : ℕ → List ℕ
-weightsOf n = cond (leb n 16) powers apart
-
-abbrev pub cellsOf : ℕ → ℕ
-cellsOf n = cond (leb n 12) 4096 65536
-
--- how many nodes there may be where sets have `size` nodes
-abbrev pub nodeLimit : (size : ℕ) → ℕ
-nodeLimit size = cond (eqb size 3) 31 16
+use Rattle.crowding_sums.specs.declared.Sets.{Sets}
 
 -- the sum of the nodes' weights
 unfoldable pub weigh : (weights : List ℕ) → List ℕ → ℕ
 weigh weights [] = 0
 weigh weights (v ∷ nodes) = getD weights v 0 + weigh weights nodes
 
--- how many of the row's sets of `size` nodes have the sum p
-abbrev pub summing : (weights : List ℕ) (size p : ℕ) → List ℕ → ℕ
-summing weights size p row = count (λ s. eqb p (weigh weights s)) (subsets size row)
-
--- how often the sum comes that comes most often in the rows, of those below `cells`
-abbrev pub mostSumming : (weights : List ℕ) (cells size : ℕ) → List (List ℕ) → ℕ
-mostSumming weights cells size rows = largest (map (λ p. total (map (summing weights size p) rows)) (upTo cells))
-
--- how often p is what is left of a sum where the weights of d of the nodes are taken off
-unfoldable pub leaving : (weights : List ℕ) (d p sum : ℕ) → List ℕ → ℕ
-leaving weights zero p sum nodes = tally (eqb p sum) 0
-leaving weights (suc d) p sum [] = 0
-leaving weights (suc d) p sum (v ∷ nodes) = leaving weights d p (sum - getD weights v 0) nodes + leaving weights (suc d) p sum nodes
+-- how many of the sums pass the test that are left where the weights of d of the nodes are taken off
+unfoldable pub leaving : (weights : List ℕ) (f : ℕ → Bool) (d sum : ℕ) → List ℕ → ℕ
+leaving weights f zero sum nodes = tally (f sum) 0
+leaving weights f (suc d) sum [] = 0
+leaving weights f (suc d) sum (v ∷ nodes) = leaving weights f d (sum - getD weights v 0) nodes + leaving weights f (suc d) sum nodes
 
 -- the same of a row's own sum
-abbrev pub leavingRow : (weights : List ℕ) (d p : ℕ) → List ℕ → ℕ
-leavingRow weights d p row = leaving weights d p (weigh weights row) row
+abbrev pub leavingRow : (weights : List ℕ) (f : ℕ → Bool) (d : ℕ) → List ℕ → ℕ
+leavingRow weights f d row = leaving weights f d (weigh weights row) row
 
--- a table has a cell for each sum that is left where d of a few nodes are left out, and each cell is at most `most`
-pub record Room (weights : List ℕ) (d sum most : ℕ) (nodes table : List ℕ) : Type 0 where
+-- a sum is counted in cell p of 65,536
+abbrev pub inCell : (p sum : ℕ) → Bool
+inCell p sum = eqb p (sum % 65536)
+
+-- how often the sum comes that comes most often, of those that are left where d of the nodes are left out
+unfoldable pub mostLeft : (weights table : List ℕ) (d sum : ℕ) → List ℕ → ℕ
+mostLeft weights table zero sum nodes = getD table (sum % 65536) 0
+mostLeft weights table (suc d) sum [] = 0
+mostLeft weights table (suc d) sum (v ∷ nodes) =
+    max (mostLeft weights table d (sum - getD weights v 0) nodes) (mostLeft weights table (suc d) sum nodes)
+
+-- the same of a row's own sum
+abbrev pub mostOf : (weights table : List ℕ) (d : ℕ) → List ℕ → ℕ
+mostOf weights table d row = mostLeft weights table d (weigh weights row) row
+
+-- the sum of one of the row's sets with d nodes less comes more than `bound` times
+abbrev pub isKept : (weights table : List ℕ) (bound d : ℕ) → List ℕ → Bool
+isKept weights table bound d row = ltb bound (mostOf weights table d row)
+
+-- the rows that pass
+unfoldable pub keptOf : (List ℕ → Bool) → List (List ℕ) → List (List ℕ)
+keptOf f [] = []
+keptOf f (row ∷ rows) = cond (f row) (row ∷ keptOf f rows) (keptOf f rows)
+
+-- a few nodes, whose weights are in the sum, and a table with a cell for each sum
+pub record Looked (weights : List ℕ) (sum : ℕ) (nodes table : List ℕ) : Type 0 where
   pub short : length nodes ≤ 5
-  pub known : All (λ v. v < length weights) nodes
+  pub known : length weights ≡ 256
   pub held : weigh weights nodes ≤ sum
-  pub cells : (p : ℕ) → 1 ≤ leaving weights d p sum nodes → p < length table
+  pub cells : length table ≡ 65536
+
+-- and each cell is at most `most`
+pub record Room (weights : List ℕ) (sum most : ℕ) (nodes table : List ℕ) : Type 0 where
+  pub look : Looked weights sum nodes table
   pub few : AtMost most table
 
--- the nodes have weights, and each sum that is left has a cell
-pub record Weighed (weights : List ℕ) (d cells : ℕ) (row : List ℕ) : Type 0 where
-  pub known : All (λ v. v < length weights) row
-  pub cell : (p : ℕ) → 1 ≤ leavingRow weights d p row → p < cells
-
--- c rows of at most five nodes, all weighed, and a table of zeros
-pub record RowsRoom (rows : List ℕ) (c r : ℕ) (weights : List ℕ) (d : ℕ) (table : List ℕ) : Type 0 where
+-- c rows of at most five nodes, sets with d nodes less that have three or more, weights, and a table
+pub record ToLook (rows : List ℕ) (c r d : ℕ) (weights table : List ℕ) : Type 0 where
   pub fit : RowsFit rows c r
-  pub two : d ≤ 2
-  pub weighed : All (Weighed weights d (length table)) (rowsAt r c rows)
+  pub three : d + 3 ≤ r
+  pub known : length weights ≡ 256
+  pub cells : length table ≡ 65536
+
+-- the same with a table of zeros
+pub record ToCount (rows : List ℕ) (c r d : ℕ) (weights table : List ℕ) : Type 0 where
+  pub look : ToLook rows c r d weights table
   pub zeros : AtMost 0 table
 
--- c rows of at most five nodes, sets with at most two nodes less whose sums have cells, and a table of zeros
-pub record SetsRoom (rows : List ℕ) (c r size : ℕ) (weights table : List ℕ) : Type 0 where
-  pub fit : RowsFit rows c r
-  pub small : size ≤ r
-  pub two : r ≤ size + 2
-  pub known : All (All (λ v. v < length weights)) (rowsAt r c rows)
-  pub cells : All (λ row. All (λ s. weigh weights s < length table) (subsets size row)) (rowsAt r c rows)
-  pub zeros : AtMost 0 table
+-- and with room for the rows
+pub record ToKeep (rows : List ℕ) (c r d : ℕ) (weights table kept : List ℕ) : Type 0 where
+  pub look : ToLook rows c r d weights table
+  pub room : c * r ≤ length kept
 
--- c rows of at most five of n nodes, in order, and sets with at most two nodes less
-pub record SetsFit (rows : List ℕ) (c r size n : ℕ) : Type 0 where
-  pub fit : RowsFit rows c r
-  pub small : size ≤ r
-  pub two : r ≤ size + 2
-  pub nodes : n ≤ nodeLimit size
-  pub order : All (λ row. T (inOrder n row)) (rowsAt r c rows)
+-- m rows were written: those that pass
+pub record KeptRows (f : List ℕ → Bool) (rows : List (List ℕ)) (r m : ℕ) (kept : List ℕ) : Type 0 where
+  pub many : m ≡ length (keptOf f rows)
+  pub whole : m * r ≤ length kept
+  pub are : rowsAt r m kept ≡ keptOf f rows
+
+-- rows in order, sets of three nodes or more, and room for the rows
+pub record SetsFit (rows : List ℕ) (r : ℕ) (sets : Sets) (kept : List ℕ) : Type 0 where
+  pub fit : RowsFit rows (sets .c) r
+  pub three : 2 ≤ sets .x
+  pub small : sets .x < r
+  pub order : All (λ row. T (ascending 0 row)) (rowsAt r (sets .c) rows)
+  pub room : sets .c * r ≤ length kept
+
+-- m rows in order were written, and nothing is crowded in all rows where nothing is in these
+pub record Sifted (r : ℕ) (sets : Sets) (rows : List ℕ) (m : ℕ) (kept : List ℕ) : Type 0 where
+  pub fewer : m ≤ sets .c
+  pub whole : m * r ≤ length kept
+  pub order : All (λ row. T (ascending 0 row)) (rowsAt r m kept)
+  pub enough : firstCrowded (sets .x) (sets .bound) (rowsAt r m kept) ≡ none
+      → firstCrowded (sets .x) (sets .bound) (rowsAt r (sets .c) rows) ≡ none
 
 -- a yes means that no x+1 nodes stand together in more than `bound` of the rows
 abbrev pub Settles : (few : Bool) (x bound : ℕ) (rows : List (List ℕ)) → Type 0

@@ -1,19 +1,18 @@
-// Counting the sets of all rows.
+// The sets of all rows: counting their sums, and keeping the rows with a sum that comes too often.
+use crate::Sets;
 use crate::count::count_row;
-use crate::weights::APART;
-use crate::weights::POWERS;
-ghost use mathlib.Core.Path.{_≡_};
+use crate::most::most_of_row;
+use crate::weights::WEIGHTS;
 ghost use mathlib.Core.List.{map};
-ghost use lib.ListN.{length};
 ghost use Rattle.lists.specs.Lists.{total};
 ghost use Rattle.packing.specs.Rows.{rowsAt};
 ghost use Rattle.crowding_pairs.specs.Codes.{Raised};
-ghost use Rattle.crowding_sums.specs.Sums.{weightsOf, cellsOf, mostSumming, leavingRow, RowsRoom, SetsRoom, SetsFit};
+ghost use Rattle.crowding_sums.specs.Sums.{leavingRow, inCell, isKept, SetsFit, ToCount, ToKeep, KeptRows, Sifted};
 
 // Counts the sums of each row's sets that have d nodes less than the row.
-fn count_rows(rows: &[u8], c: usize, r: usize, weights: &[u16], d: usize, table: &mut [u16])
-    requires { ⌜ RowsRoom (now rows) c r (now weights) d (now table) ⌝ }
-    ensures { λ _. ⌜ Raised (λ p. total (map (leavingRow (now (weights .entry)) d p) (rowsAt r c (now (rows .entry)))))
+fn count_rows(rows: &[u8], c: usize, r: usize, d: usize, weights: &[u16], table: &mut [u16])
+    requires { ⌜ ToCount (now rows) c r d (now weights) (now table) ⌝ }
+    ensures { λ _. ⌜ Raised (λ p. total (map (leavingRow (now (weights .entry)) (inCell p) d) (rowsAt r c (now (rows .entry)))))
         (now (table .entry)) (now (table .exit)) ⌝ }
 {
     let mut i: usize = 0;
@@ -26,67 +25,110 @@ fn count_rows(rows: &[u8], c: usize, r: usize, weights: &[u16], d: usize, table:
     }
 }
 
-// The same of rows of five. For numbers that are written out the compiler lays out the whole row.
-fn count_fives(rows: &[u8], c: usize, weights: &[u16], d: usize, table: &mut [u16])
-    requires { ⌜ RowsRoom (now rows) c 5 (now weights) d (now table) ⌝ }
-    ensures { λ _. ⌜ Raised (λ p. total (map (leavingRow (now (weights .entry)) d p) (rowsAt 5 c (now (rows .entry)))))
-        (now (table .entry)) (now (table .exit)) ⌝ }
-{
-    if d == 2 {
-        count_rows(rows, c, 5, weights, 2, table);
-        return;
-    }
-    if d == 1 {
-        count_rows(rows, c, 5, weights, 1, table);
-        return;
-    }
-    count_rows(rows, c, 5, weights, d, table);
-}
-
-fn count_all(rows: &[u8], c: usize, r: usize, weights: &[u16], d: usize, table: &mut [u16])
-    requires { ⌜ RowsRoom (now rows) c r (now weights) d (now table) ⌝ }
-    ensures { λ _. ⌜ Raised (λ p. total (map (leavingRow (now (weights .entry)) d p) (rowsAt r c (now (rows .entry)))))
+// The same. For numbers that are written out the compiler lays out the whole row.
+fn count_all(rows: &[u8], c: usize, r: usize, d: usize, weights: &[u16], table: &mut [u16])
+    requires { ⌜ ToCount (now rows) c r d (now weights) (now table) ⌝ }
+    ensures { λ _. ⌜ Raised (λ p. total (map (leavingRow (now (weights .entry)) (inCell p) d) (rowsAt r c (now (rows .entry)))))
         (now (table .entry)) (now (table .exit)) ⌝ }
 {
     if r == 5 {
-        count_fives(rows, c, weights, d, table);
+        if d == 2 {
+            count_rows(rows, c, 5, 2, weights, table);
+            return;
+        }
+        if d == 1 {
+            count_rows(rows, c, 5, 1, weights, table);
+            return;
+        }
+        count_rows(rows, c, 5, 0, weights, table);
         return;
     }
-    count_rows(rows, c, r, weights, d, table);
+    if r == 4 {
+        if d == 1 {
+            count_rows(rows, c, 4, 1, weights, table);
+            return;
+        }
+        count_rows(rows, c, 4, 0, weights, table);
+        return;
+    }
+    count_rows(rows, c, 3, 0, weights, table);
 }
 
-// How often the sum comes that comes most often in the rows' sets of `size` nodes, counted in a table of zeros.
-fn most_in(
+// Writes the rows that have such a set, whose sum comes more than `bound` times, to the start of `kept`, and answers how many they are.
+fn keep_counted(
     rows: &[u8],
-    c: usize,
+    sets: Sets,
     r: usize,
-    size: usize,
+    d: usize,
     weights: &[u16],
-    table: &mut [u16],
+    table: &[u16],
+    kept: &mut [u8],
 ) -> usize
-    requires { ⌜ SetsRoom (now rows) c r size (now weights) (now table) ⌝ }
-    ensures { λ most. ⌜ most
-        ≡ mostSumming (now (weights .entry)) (length (now (table .entry))) size (rowsAt r c (now (rows .entry))) ⌝ }
+    requires { ⌜ ToKeep (now rows) (sets .c) r d (now weights) (now table) (now kept) ⌝ }
+    ensures { λ m. ⌜ KeptRows (isKept (now (weights .entry)) (now (table .entry)) (sets .bound) d)
+        (rowsAt r (sets .c) (now (rows .entry))) r m (now (kept .exit)) ⌝ }
 {
-    let d = r - size;
-    count_all(rows, c, r, weights, d, table);
-    crowding_pairs::most_of(table) as usize
+    let c = sets.c;
+    let bound = sets.bound;
+    let mut i: usize = 0;
+    let mut at: usize = 0;
+    let mut m: usize = 0;
+    let mut to: usize = 0;
+    while i < c {
+        let end = at + r;
+        if most_of_row(&rows[at..end], weights, d, table) > bound {
+            rows_writer::copy_bytes(&mut kept[to..], &rows[at..end]);
+            to += r;
+            m += 1;
+        }
+        at = end;
+        i += 1;
+    }
+    m
 }
 
-// The same of c rows of r of n nodes, with weights and a table for as many.
-pub fn most_summing(rows: &[u8], c: usize, r: usize, size: usize, n: usize) -> usize
-    requires { ⌜ SetsFit (now rows) c r size n ⌝ }
-    ensures { λ most. ⌜ most ≡ mostSumming (weightsOf n) (cellsOf n) size (rowsAt r c (now (rows .entry))) ⌝ }
+// The same, laid out as above.
+fn keep_all(
+    rows: &[u8],
+    sets: Sets,
+    r: usize,
+    d: usize,
+    weights: &[u16],
+    table: &[u16],
+    kept: &mut [u8],
+) -> usize
+    requires { ⌜ ToKeep (now rows) (sets .c) r d (now weights) (now table) (now kept) ⌝ }
+    ensures { λ m. ⌜ KeptRows (isKept (now (weights .entry)) (now (table .entry)) (sets .bound) d)
+        (rowsAt r (sets .c) (now (rows .entry))) r m (now (kept .exit)) ⌝ }
 {
-    let powers = POWERS;
-    if n <= 12 {
-        let mut table = [0u16; 4096];
-        return most_in(rows, c, r, size, &powers, &mut table);
+    if r == 5 {
+        if d == 2 {
+            return keep_counted(rows, sets, 5, 2, weights, table, kept);
+        }
+        if d == 1 {
+            return keep_counted(rows, sets, 5, 1, weights, table, kept);
+        }
+        return keep_counted(rows, sets, 5, 0, weights, table, kept);
     }
+    if r == 4 {
+        if d == 1 {
+            return keep_counted(rows, sets, 4, 1, weights, table, kept);
+        }
+        return keep_counted(rows, sets, 4, 0, weights, table, kept);
+    }
+    keep_counted(rows, sets, 3, 0, weights, table, kept)
+}
+
+// Writes some of the rows to the start of `kept`, and answers how many: no set stands together too often in all rows if none does in
+// these. A row is left out where the sum of weights of each of its sets comes at most `bound` times in all rows: no set comes
+// more often than its sum.
+pub fn keep_rows(rows: &[u8], r: usize, sets: Sets, kept: &mut [u8]) -> usize
+    requires { ⌜ SetsFit (now rows) r sets (now kept) ⌝ }
+    ensures { λ m. ⌜ Sifted r sets (now (rows .entry)) m (now (kept .exit)) ⌝ }
+{
+    let d = r - 1 - sets.x;
+    let weights = WEIGHTS;
     let mut table = [0u16; 65536];
-    if n <= 16 {
-        return most_in(rows, c, r, size, &powers, &mut table);
-    }
-    let apart = APART;
-    most_in(rows, c, r, size, &apart, &mut table)
+    count_all(rows, sets.c, r, d, &weights, &mut table);
+    keep_all(rows, sets, r, d, &weights, &table, kept)
 }

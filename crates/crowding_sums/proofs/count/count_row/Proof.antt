@@ -2,7 +2,7 @@
 use native.Mathlib.Omega.{arith}
 use mathlib.Core.Path.{_≡_}
 use borrow.Author.Needs.{needs}
-use Rattle.crowding_sums.proofs.Turning.{whole-fits, whole-raised, as-number}
+use Rattle.crowding_sums.proofs.Turning.{whole-raised, roomier}
 use Rattle.crowding_sums.proofs.count.count_row.Statement.{statement}
 use Rattle.crowding_sums.proofs.count.count_row.Tie as tie
 
@@ -16,12 +16,13 @@ two c = omega (arith, start (c .before .before) .pre .0, c .before .if1 .left, c
 sum-of-requires : tie.Need-sum-of-requires
 sum-of-requires c κs =
     let room = c .before .before .before .pre .1 in
-    (room .short, room .known)
+    (room .look .short, room .look .known)
 
 count-sum-requires : tie.Need-count-sum-requires
 count-sum-requires c κs =
     let summed = c .before .before in
-    rw (summed .sum-of .ensures) (whole-fits (c .before .if1 .taken) (start summed .pre .1))
+    let room = roomier {most = 65534} (omega arith) (start summed .pre .1) in
+    (room .look .cells, room .few)
 
 same-length : tie.Need-same-length
 same-length c = search needs
@@ -34,7 +35,7 @@ returns c =
 count-without-one-requires : tie.Need-count-without-one-requires
 count-without-one-requires c κs =
     let summed = c .before .before .before in
-    rw (summed .sum-of .ensures) (as-number (c .before .if2 .taken) (omega arith) (start summed .pre .1))
+    rw (summed .sum-of .ensures) (roomier (omega arith) (start summed .pre .1))
 
 same-length-2 : tie.Need-same-length-2
 same-length-2 c = search needs
@@ -47,7 +48,7 @@ returns-2 c =
 count-without-two-requires : tie.Need-count-without-two-requires
 count-without-two-requires c κs =
     let summed = c .before .before .before in
-    rw (summed .sum-of .ensures) (as-number (two (c .before)) (omega arith) (start summed .pre .1))
+    rw (summed .sum-of .ensures) (start summed .pre .1)
 
 same-length-3 : tie.Need-same-length-3
 same-length-3 c = search needs

@@ -1,4 +1,7 @@
 -- `crowding_sums::count::count_sum` meets its contract. Assumes nothing.
+use Prim.Native.Nat.{_%_}
+use native.Mathlib.Nat.{mod-lt}
+use native.Mathlib.Omega.{arith}
 use borrow.Author.Needs.{needs}
 use Rattle.crowding_pairs.proofs.Cells.{raised-one}
 use Rattle.crowding_sums.proofs.count.count_sum.Statement.{statement}
@@ -11,7 +14,7 @@ slice-read-n : tie.Need-slice-read-n
 slice-read-n c = search needs
 
 add-table : tie.Need-add-table
-add-table c = search needs
+add-table c = record { fits = omega (arith, c .before .pre .1 (c .before .args .sum % 65536)) }
 
 mul-table : tie.Need-mul-table
 mul-table c = search needs
@@ -23,7 +26,9 @@ same-length : tie.Need-same-length
 same-length c = search needs
 
 returns : tie.Need-returns
-returns c = raised-one (c .before .args .table .now) (c .before .args .sum) (c .before .pre .0)
+returns c =
+    let s = c .before in
+    raised-one (s .args .table .now) (s .args .sum % 65536) (omega (arith, s .pre .0, mod-lt (s .args .sum) {m = 65536} (omega arith)))
 
 pub count-sum-spec : {M : Type 1} → statement M
 count-sum-spec =

@@ -1,11 +1,10 @@
 -- `crowding_sums::count::count_without_one` meets its contract. The loop's invariant: the sums without a node before i are counted.
 -- Assumes nothing.
-use Prim.Native.Nat.{_-_, _<_}
+use Prim.Native.Nat.{_-_}
 use native.Mathlib.Omega.{arith}
 use lib.ListN.{length}
 use borrow.Author.Needs.{needs}
-use Rattle.lists.proofs.Alls.{all-getD}
-use Rattle.crowding_sums.proofs.Left.{Left, left-start, left-weight, last-fits, last-next, left-all}
+use Rattle.crowding_sums.proofs.Left.{Left, left-start, left-weight, left-fits, last-next, left-all}
 use Rattle.crowding_sums.proofs.count.count_without_one.Statement.{statement}
 use Rattle.crowding_sums.proofs.count.count_without_one.Tie as tie
 
@@ -24,19 +23,18 @@ shared-slice-read-weight c = search needs
 weight-requires : tie.Need-weight-requires Inv-loop μ-loop
 weight-requires c κs =
     let l = c .before .before in
-    let s = l .before .before .before .before in
-    all-getD (λ v. v < length (s .args .weights .now)) (s .args .nodes .now) (l .loop .i) 0 (s .pre .known) (c .before .loop-test .taken)
+    omega (arith, l .before .before .before .before .pre .look .known, l .before .before .before .shared-slice-known .given (l .loop .i))
 
 sub-left : tie.Need-sub-left Inv-loop μ-loop
 sub-left c =
     let l = c .before .before .before in
-    omega (arith, c .weight .ensures, left-weight (l .loop .inv) (c .before .before .loop-test .taken))
+    omega (arith, c .weight .ensures, left-weight (l .loop .inv .turn) (c .before .before .loop-test .taken))
 
 count-sum-requires : tie.Need-count-sum-requires Inv-loop μ-loop
 count-sum-requires c κs =
     let l = c .before .before .before .before in
     let s = l .before .before .before .before in
-    rw (c .before .weight .ensures) (last-fits (l .loop .inv) (c .before .before .before .loop-test .taken) (s .pre))
+    left-fits (l .loop .inv) (c .before .before .before .loop-test .taken) (s .pre)
 
 add-i : tie.Need-add-i Inv-loop μ-loop
 add-i c = search needs

@@ -1,10 +1,9 @@
 -- `crowding_sums::count::count_without_two` meets its contract. The loop's invariant: the sums without two nodes are counted, of which the
 -- first is before i. Assumes nothing.
-use Prim.Native.Nat.{_-_, _<_}
+use Prim.Native.Nat.{_-_}
 use native.Mathlib.Omega.{arith}
 use lib.ListN.{length}
 use borrow.Author.Needs.{needs}
-use Rattle.lists.proofs.Alls.{all-getD}
 use Rattle.crowding_sums.proofs.Left.{Left, left-start, left-weight, left-room, two-next, left-all}
 use Rattle.crowding_sums.proofs.count.count_without_two.Statement.{statement}
 use Rattle.crowding_sums.proofs.count.count_without_two.Tie as tie
@@ -24,13 +23,12 @@ shared-slice-read-weight c = search needs
 weight-requires : tie.Need-weight-requires Inv-loop μ-loop
 weight-requires c κs =
     let l = c .before .before in
-    let s = l .before .before .before .before in
-    all-getD (λ v. v < length (s .args .weights .now)) (s .args .nodes .now) (l .loop .i) 0 (s .pre .known) (c .before .loop-test .taken)
+    omega (arith, l .before .before .before .before .pre .look .known, l .before .before .before .shared-slice-known .given (l .loop .i))
 
 sub-left : tie.Need-sub-left Inv-loop μ-loop
 sub-left c =
     let l = c .before .before .before in
-    omega (arith, c .weight .ensures, left-weight (l .loop .inv) (c .before .before .loop-test .taken))
+    omega (arith, c .weight .ensures, left-weight (l .loop .inv .turn) (c .before .before .loop-test .taken))
 
 add-from : tie.Need-add-from Inv-loop μ-loop
 add-from c = search needs

@@ -1,14 +1,12 @@
 -- `crowding_sums::count::sum_of` meets its contract. The loop's invariant: the sum and the weights of the nodes from i on are the whole.
 -- Assumes nothing.
-use Prim.Native.Nat.{_+_, _-_, _≤_, _<_}
+use Prim.Native.Nat.{_+_, _-_, _≤_}
 use native.Mathlib.Omega.{arith}
 use mathlib.Core.Path.{_≡_}
 use lib.ListN.{length, drop}
 use borrow.Author.Needs.{needs}
-use Rattle.lists.proofs.Alls.{all-getD}
 use Rattle.crowding_sums.specs.Sums.{weigh}
-use Rattle.crowding_sums.proofs.Left.{weigh-next, weigh-end}
-use Rattle.crowding_sums.proofs.Weighing.{weigh-le}
+use Rattle.crowding_sums.proofs.Left.{weigh-next, weigh-end, weigh-le}
 use Rattle.crowding_sums.proofs.count.sum_of.Statement.{statement}
 use Rattle.crowding_sums.proofs.count.sum_of.Tie as tie
 
@@ -27,9 +25,8 @@ shared-slice-read-weight c = search needs
 
 weight-requires : tie.Need-weight-requires Inv-loop μ-loop
 weight-requires c κs =
-    let a = c .before .before .before .before .before .args in
-    all-getD (λ v. v < length (a .weights .now)) (a .nodes .now) (c .before .before .loop .i) 0 (c .before .before .before .before .before .pre .1)
-    (c .before .loop-test .taken)
+    let s = c .before .before .before .before .before in
+    omega (arith, s .pre .1, c .before .before .before .before .shared-slice-known .given (c .before .before .loop .i))
 
 add-sum : tie.Need-add-sum Inv-loop μ-loop
 add-sum c =

@@ -3,27 +3,23 @@ use Prim.Native.Nat.{_-_}
 use native.Mathlib.Omega.{arith}
 use borrow.Author.Needs.{needs}
 use Rattle.crowding_pairs.proofs.Turns.{Turns, turns-start, bytes-five, turn-fits, turn-next, turns-all}
-use Rattle.crowding_sums.specs.Sums.{leavingRow}
+use Rattle.crowding_sums.specs.Sums.{leavingRow, inCell}
 use Rattle.crowding_sums.proofs.Leaving.{leaving-ten}
-use Rattle.crowding_sums.proofs.Turning.{turn-weighed}
+use Rattle.crowding_sums.proofs.Turning.{turn-room}
 use Rattle.crowding_sums.proofs.rows.count_rows.Statement.{statement}
 use Rattle.crowding_sums.proofs.rows.count_rows.Tie as tie
 
 abbrev Inv-loop : tie.InvT-loop
-Inv-loop rows c r weights d table₀ i₀ at₀ table i at = Turns (leavingRow weights d) rows c r table₀ table i at
+Inv-loop rows c r d weights table₀ i₀ at₀ table i at = Turns (λ p. leavingRow weights (inCell p) d) rows c r table₀ table i at
 
 abbrev μ-loop : tie.MeasureT-loop
-μ-loop rows c r weights d table₀ i₀ at₀ table i at = c - i
-
--- what the call was given
-abbrev start : tie.In-loop Inv-loop μ-loop → tie.Start Inv-loop μ-loop
-start c = c .before .before .before .before .before
+μ-loop rows c r d weights table₀ i₀ at₀ table i at = c - i
 
 loop-holds : tie.Need-loop-holds Inv-loop μ-loop
 loop-holds c = turns-start (c .before .before .before .pre .zeros)
 
 add-end : tie.Need-add-end Inv-loop μ-loop
-add-end c = omega (arith, turn-fits (c .before .loop .inv) (start c .pre .fit) (c .loop-test .taken))
+add-end c = omega (arith, turn-fits (c .before .loop .inv) (c .before .before .before .before .before .pre .look .fit) (c .loop-test .taken))
 
 sub-count-row : tie.Need-sub-count-row Inv-loop μ-loop
 sub-count-row c = search needs
@@ -32,12 +28,13 @@ part-count-row-start : tie.Need-part-count-row-start Inv-loop μ-loop
 part-count-row-start c = search needs
 
 part-count-row-end : tie.Need-part-count-row-end Inv-loop μ-loop
-part-count-row-end c = omega (arith, turn-fits (c .before .loop .inv) (start c .pre .fit) (c .loop-test .taken))
+part-count-row-end c = omega (arith, turn-fits (c .before .loop .inv) (c .before .before .before .before .before .pre .look .fit) (c .loop-test .taken))
 
 count-row-requires : tie.Need-count-row-requires Inv-loop μ-loop
 count-row-requires c κs =
-    let t = c .before .before in
-    (start t .pre .two, turn-weighed (t .before .loop .inv) (start t .pre) (t .loop-test .taken))
+    let l = c .before .before .before in
+    let s = l .before .before .before .before in
+    (omega (arith, s .pre .look .three, s .pre .look .fit .five), turn-room (l .loop .inv) (s .pre) (c .before .before .loop-test .taken))
 
 add-i : tie.Need-add-i Inv-loop μ-loop
 add-i c = search needs
@@ -47,12 +44,12 @@ loop-less c = search needs
 
 loop-again : tie.Need-loop-again Inv-loop μ-loop
 loop-again c =
-    let t = c .before .before .before .before .before in
-    let turn = t .before .loop .inv in
-    let s = start t in
-    turn-next turn (s .pre .fit) (t .loop-test .taken)
-    (λ p. leaving-ten (s .args .weights .now) (s .args .d) p _ _ (s .pre .two) (bytes-five turn (s .pre .fit) (t .loop-test .taken)))
-    (c .before .before .count-row .ensures)
+    let l = c .before .before .before .before .before .before in
+    let s = l .before .before .before .before in
+    let fit = s .pre .look .fit in
+    turn-next (l .loop .inv) fit (c .before .before .before .before .before .loop-test .taken)
+    (λ p. leaving-ten (s .args .weights .now) (inCell p) (s .args .d) _ _ (omega (arith, s .pre .look .three, fit .five))
+    (bytes-five (l .loop .inv) fit (c .before .before .before .before .before .loop-test .taken))) (c .before .before .count-row .ensures)
 
 same-length : tie.Need-same-length Inv-loop μ-loop
 same-length c = search needs
