@@ -1,13 +1,16 @@
 -- The first bad row, row by row: what is left to look at from row j on, and the row numbers from there. Assumes nothing.
-use Prim.Native.Nat.{ℕ, suc, _+_, _-_, _≤_, _<_}
+use Prim.Native.Nat.{ℕ, zero, suc, _+_, _*_, _-_, _≤_, _<_}
+use native.Mathlib.Nat.{zero-mul}
 use native.Mathlib.Omega.{arith}
-use mathlib.Core.Path.{_≡_, refl}
+use mathlib.Core.Path.{_≡_, refl, sym, ap, _∙_}
 use mathlib.Core.Bool.{true, false}
 use mathlib.Core.List.{List}
 use mathlib.Core.Option.{Option, none, some}
+use lib.Dec.{T}
 use lib.ListN.{take, drop}
 use lib.Seq.{drop-drop}
-use Rattle.lists.specs.Lists.{later, firstWhere}
+use Rattle.lists.specs.Lists.{All, later, firstWhere}
+use Rattle.lists.proofs.Tests.{true-T}
 use Rattle.packing.specs.Rows.{inOrder, rowsAt, firstBad}
 
 -- j places further on
@@ -23,12 +26,30 @@ pub laterBy-later : (j : ℕ) (o : Option ℕ) → laterBy j (later o) ≡ later
 laterBy-later j none = refl
 laterBy-later j (some i) = let e : j + suc i ≡ j + 1 + i = omega arith in rw e
 
+later-laterBy : (j : ℕ) (o : Option ℕ) → later (laterBy j o) ≡ laterBy (suc j) o
+later-laterBy j none = refl
+later-laterBy j (some i) = let e : suc (j + i) ≡ suc j + i = omega arith in rw e
+
 -- the first bad one of the rows from row j on, which begin at byte `at`, by its number among all c rows
 abbrev pub badFrom : (n r c : ℕ) (s : List ℕ) (j at : ℕ) → Option ℕ
 badFrom n r c s j at = laterBy j (firstBad n (rowsAt r (c - j) (drop at s)))
 
-pub bad-from-start : (n r c : ℕ) (s : List ℕ) → badFrom n r c s 0 0 ≡ firstBad n (rowsAt r c s)
-bad-from-start n r c s = let e : c - 0 ≡ c = omega arith in rw e (laterBy-zero (firstBad n (rowsAt r c s)))
+-- past rows that are in order
+pub bad-past : (n r j c : ℕ) (s : List ℕ) → j ≤ c → All (λ row. T (inOrder n row)) (rowsAt r j s)
+    → firstBad n (rowsAt r c s) ≡ badFrom n r c s j (j * r)
+unfolding firstWhere rowsAt firstBad
+bad-past n r zero c s h all =
+    let e : c - 0 ≡ c = omega arith in
+    rw (e, zero-mul r) (sym (laterBy-zero (firstBad n (rowsAt r c s))))
+bad-past n r (suc j) zero s h all = absurd (omega arith)
+bad-past n r (suc j) (suc c) s h all =
+    let e : suc c - suc j ≡ c - j = omega arith in
+    let d : suc j * r ≡ r + j * r = omega arith in
+    let left = firstBad n (rowsAt r (c - j) (drop (r + j * r) s)) in
+    let rest : firstBad n (rowsAt r c (drop r s)) ≡ laterBy j left =
+    rw (drop-drop (j * r) r s) at (bad-past n r j c (drop r s) (omega arith) (all .1))
+    in
+    rw (e, d, true-T (inOrder n (take r s)) (all .0)) (ap later rest ∙ later-laterBy j left)
 
 pub bad-of-end : (n r c : ℕ) (s : List ℕ) (j at : ℕ) → c ≤ j → badFrom n r c s j at ≡ none
 unfolding firstWhere rowsAt firstBad

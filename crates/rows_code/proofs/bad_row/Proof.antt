@@ -1,6 +1,7 @@
 -- `rows_code::bad_row` meets its contract. The loop's invariant: the first bad row is the first bad one of the rows from row j
 -- on, which begin at byte `at`. Assumes nothing.
 use Prim.Native.Nat.{_*_, _≤_, _-_}
+use native.Mathlib.Nat.{mul-le-mul-right}
 use native.Mathlib.Omega.{arith}
 use mathlib.Core.Path.{_≡_, sym, ap, _∙_}
 use borrow.Author.Needs.{needs}
@@ -8,21 +9,25 @@ use borrow.Author.Tests.{not-true, not-false}
 use Rattle.packing.specs.Answers.{rowFound}
 use Rattle.packing.specs.Rows.{rowsAt, firstBad}
 use Rattle.lists.proofs.Arith.{run-end-le}
-use Rattle.rows_code.proofs.FirstBad.{badFrom, bad-from-start, bad-of-end, bad-of-here, bad-of-next}
+use Rattle.rows_code.proofs.FirstBad.{badFrom, bad-past, bad-of-end, bad-of-here, bad-of-next}
 use Rattle.rows_code.proofs.bad_row.Statement.{statement}
 use Rattle.rows_code.proofs.bad_row.Tie as tie
 
 abbrev Inv-loop : tie.InvT-loop
-Inv-loop rows c r n j₀ at₀ j at =
+Inv-loop rows c r n start j₀ at₀ j at =
     (j ≤ c) × (at ≡ j * r) × (firstBad n (rowsAt r c rows) ≡ badFrom n r c rows j at)
 
 abbrev μ-loop : tie.MeasureT-loop
-μ-loop rows c r n j₀ at₀ j at = c - j
+μ-loop rows c r n start j₀ at₀ j at = c - j
+
+mul-at : tie.Need-mul-at Inv-loop μ-loop
+mul-at c = omega (arith, mul-le-mul-right (c .before .args .r) (c .before .pre .1 .0))
 
 loop-holds : tie.Need-loop-holds Inv-loop μ-loop
 loop-holds c =
     let a = c .before .args in
-    (search needs, omega arith, sym (bad-from-start (a .n) (a .r) (a .c) (a .rows .now)))
+    let pre = c .before .pre in
+    (search needs, omega arith, bad-past (a .n) (a .r) (a .start) (a .c) (a .rows .now) (pre .1 .0) (pre .1 .1))
 
 add-end : tie.Need-add-end Inv-loop μ-loop
 add-end c = omega (arith, run-end-le (c .before .before .before .args .r) (c .loop-test .taken))
@@ -82,6 +87,7 @@ bad-row-spec =
     (tie.spec
     Inv-loop
     μ-loop
+    mul-at
     loop-holds
     add-end
     sub-row-in-order
