@@ -1,10 +1,12 @@
 // The packing test on rows in bytes: of one layer, and layer by layer (`packings`).
+mod load;
 mod packings;
 mod place;
 mod sizes;
 
 use crowding::Level;
 use crowding_sums::Sets;
+pub use load::first_load;
 use packing::RowFound;
 pub use packings::check_packings;
 pub use place::row_start;
@@ -16,21 +18,8 @@ ghost use lib.ListN.{length};
 ghost use Rattle.lists.specs.Lists.{All};
 ghost use Rattle.packing.specs.Rows.{ascending, rowsAt, firstCrowded};
 ghost use Rattle.packing.specs.Answers.{rowFound};
-ghost use Rattle.crowding.specs.Tails.{fewLoads};
 ghost use Rattle.crowding_pairs.specs.Codes.{fewPairs};
 ghost use Rattle.crowding_sums.specs.Sums.{Settles};
-
-// Whether the sets are of one node and no node stands in more than `bound` of the rows, by one count of the bytes.
-fn few_loads(rows: &[u8], c: usize, r: usize, x: usize, bound: usize) -> bool
-    requires { ⌜ c * r ≤ length (now rows) ⌝ }
-    requires order { ⌜ All (λ row. T (ascending 0 row)) (rowsAt r c (now rows)) ⌝ }
-    ensures { λ few. ⌜ few ≡ fewLoads x bound (rowsAt r c (now (rows .entry))) ⌝ }
-{
-    if x != 0 {
-        return false;
-    }
-    rows_load::most_load(rows, c, r, 256) <= bound
-}
 
 // Whether the sets are of two nodes, the rows many, and no pair of nodes stands in more than `bound` of them, by one count of the
 // pairs in a table. For few rows the table would cost more than it spares.
@@ -100,9 +89,6 @@ pub fn first_crowded(rows: &[u8], c: usize, r: usize, x: usize, bound: usize) ->
     ensures { λ found. ⌜ found ≡ rowFound (firstCrowded x bound (rowsAt r c (now (rows .entry)))) ⌝ }
 {
     if c <= bound {
-        return RowFound::Nothing;
-    }
-    if few_loads(rows, c, r, x, bound) {
         return RowFound::Nothing;
     }
     if few_pairs(rows, c, r, x, bound) {

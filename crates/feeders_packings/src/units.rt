@@ -29,5 +29,6 @@ pub(crate) fn check_units(
     if let RowFound::At(row) = shared {
         return Verdict::Refused(Refusal::SharedFeeder(crowding_code::row_start(at, r, row)));
     }
-    crowding_code::check_packings(fed, at, r, layers, heads)
+    let load = crowding_code::first_load(fed, at, r, layers, heads);
+    crowding_code::check_packings(fed, at, r, layers, heads, load)
 }

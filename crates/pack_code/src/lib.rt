@@ -54,7 +54,8 @@ pub fn check_pack(bytes: &[u8]) -> PackCheck
     }
     let layers = numbers.heads;
     let first = numbers.next;
-    let rows_verdict = layers_code::check_rows(bytes, first, base, r, layers);
+    let rows = layers_code::check_rows(bytes, first, base, r, layers);
+    let rows_verdict = rows.verdict;
     if let Verdict::Refused(e) = rows_verdict {
         return refuse(e);
     }

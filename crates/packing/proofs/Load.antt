@@ -5,19 +5,22 @@ use native.Mathlib.Numerals.{add-one}
 use native.Mathlib.Omega.{arith}
 use mathlib.Core.Path.{_≡_, refl, sym, ap, _∙_}
 use mathlib.Core.Bool.{Bool, true, false}
+use mathlib.Core.Logic.{_⊎_, inl, inr}
 use mathlib.Core.List.{List, [], _∷_, flatten}
 use lib.Dec.{T, leb, ltb, eqb, leb→le, ltb→lt}
-use lib.ListN.{length, getD, take, drop, set, replicate, getD-replicate, length-take}
+use lib.ListN.{length, getD, take, drop, set, replicate, getD-replicate, length-take, List·getD-eq-default}
 use lib.Seq.{take-suc, take-all, getD-set-same, getD-set-other}
 use borrow.Author.Tests.{eqb-true, eqb-false, ne-eqb}
 use Rattle.lists.specs.Lists.{All, tally, count, every, total}
 use Rattle.lists.proofs.Tests.{and-left, and-right}
 use Rattle.lists.proofs.Alls.{all-imp, all-flatten, every-all, length-flatten}
 use Rattle.lists.proofs.Counts.{tally-add, count-append, count-le-length}
+use Rattle.lists.proofs.Arith.{le-or-lt}
+use Rattle.lists.proofs.Largest.{largest-le, largest-most}
 use Rattle.lists.proofs.Totals.{total-count-eqb}
 use Rattle.lists.proofs.UpTo.{length-map-upTo, getD-map-upTo, map-upTo-congr, take-map-upTo}
 use Rattle.packing.specs.Rows.{ascending, inOrder, Row, rowsAt, member}
-use Rattle.packing.specs.Load.{load, loads, nodeCounts}
+use Rattle.packing.specs.Load.{load, loads, nodeCounts, most}
 use Rattle.packing.proofs.RowsAt.{flatten-rowsAt}
 
 -- a node below all of an ascending row is not in it
@@ -126,3 +129,35 @@ total-loads n r rows h =
     let counted = map-upTo-congr (λ v. count (eqb v) (flatten rows)) (load rows) n
     (λ v lt. count-of-rows v rows (rows-ascend n rows ordered)) in
     ap total (sym counted) ∙ total-count-eqb n (flatten rows) below ∙ length-flatten r rows lengths
+
+-- no row of nodes below n holds node n or a later one
+load-past : (n v : ℕ) (rows : List (List ℕ)) → All (λ row. T (inOrder n row)) rows → n ≤ v → load rows v ≡ 0
+unfolding count member
+load-past n v [] h le = refl
+load-past n v (row ∷ rows) h le =
+    rw (not-in row (every-all (λ w. ltb w n) row (and-right (ascending 0 row) (every (λ w. ltb w n) row) (h .0))))
+    (load-past n v rows (h .1) le)
+  where
+    not-in : (nodes : List ℕ) → All (λ w. T (ltb w n)) nodes → member v nodes ≡ false
+    not-in [] g = refl
+    not-in (w ∷ nodes) g = rw (ne-eqb v w (λ e. let lt = ltb→lt w n (g .0) in omega arith)) (not-in nodes (g .1))
+
+-- in rows of nodes below n the largest of the n counts is the largest of all
+pub most-all : (n : ℕ) (rows : List (List ℕ)) → All (λ row. T (inOrder n row)) rows → n ≤ 256 → most 256 rows ≡ most n rows
+most-all n rows h le =
+    let up-to = largest-most (loads 256 rows) (most n rows) (λ i. up i (le-or-lt 256 i) (le-or-lt n i)) in
+    let down-to = largest-most (loads n rows) (most 256 rows) (λ i. down i (le-or-lt n i)) in
+    omega arith
+  where
+    up : (i : ℕ) → (256 ≤ i) ⊎ (i < 256) → (n ≤ i) ⊎ (i < n) → getD (loads 256 rows) i 0 ≤ most n rows
+    up i (inl end) past =
+        rw (List·getD-eq-default (loads 256 rows) 0 {n = i} (omega (arith, length-map-upTo (load rows) 256))) (omega arith)
+    up i (inr lt) (inl past) = rw (getD-map-upTo (load rows) 256 i 0 lt, load-past n i rows h past) (omega arith)
+    up i (inr lt) (inr below) =
+        rw (getD-map-upTo (load rows) 256 i 0 lt, ← getD-map-upTo (load rows) n i 0 below) (largest-le (loads n rows) i)
+
+    down : (i : ℕ) → (n ≤ i) ⊎ (i < n) → getD (loads n rows) i 0 ≤ most 256 rows
+    down i (inl end) =
+        rw (List·getD-eq-default (loads n rows) 0 {n = i} (omega (arith, length-map-upTo (load rows) n))) (omega arith)
+    down i (inr lt) =
+        rw (getD-map-upTo (load rows) n i 0 lt, ← getD-map-upTo (load rows) 256 i 0 (omega arith)) (largest-le (loads 256 rows) i)

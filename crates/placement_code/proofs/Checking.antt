@@ -1,7 +1,7 @@
 -- The cases of checking a placement, step by step, and what the steps ask of each other. Assumes nothing.
 use Prim.Native.Nat.{ℕ, _≤_}
 use native.Mathlib.Omega.{arith}
-use mathlib.Core.Path.{_≡_, refl, _∙_, ap}
+use mathlib.Core.Path.{_≡_, refl, _∙_, ap, subst}
 use mathlib.Core.Bool.{true}
 use mathlib.Core.List.{List}
 use lib.ListN.{length, take}
@@ -31,8 +31,30 @@ use Rattle.placement.specs.Asked.{RecordsAsked}
 use Rattle.placement.specs.declared.FeederTable.{FeederTable}
 use Rattle.placement.specs.declared.RecordsCheck.{RecordsCheck}
 use Rattle.placement.specs.declared.PlacementCheck.{PlacementCheck}
+use Rattle.placement.specs.declared.PlacementHead.{PlacementHead}
 use Rattle.placement.specs.declared.PlacementAnswer.the-variants.{Accepted}
+use Rattle.crowding_code.specs.Load.{firstLoad}
+use Rattle.placement_code.specs.Loaded.{Handed}
 use Rattle.placement.proofs.Accepted.{termNumbers, orderOf, reads-of-readTerms}
+
+-- beside a refusal no load is handed on
+pub handed-refused : {s : List ℕ} {check answer : PlacementCheck} {load : ℕ} {e : Refusal} → check ≡ placementChecked (refused e)
+    → placementChecked (refused e) ≡ answer → (check ≡ answer) × Handed s check load
+handed-refused is why = (
+  is ∙ why,
+  record { counted = λ head yes fed. absurd (let v = ap (λ c. c .answer) is in let z : _≡_ {A = ℕ} 0 1 = cc in omega arith) },
+)
+
+-- what is handed on beside an accepted head
+pub handed-on : {s : List ℕ} {load : ℕ} (check : PlacementCheck) (h : PlacementHead) → check .answer ≡ Accepted h
+    → ((h .kind ≡ 6 → ⊥) → load ≡ firstLoad (h .r) (check .layers) s (h .first)) → Handed s check load
+handed-on {s} {load} check h answer is =
+    record {
+      counted =
+          λ head yes.
+          let same : h ≡ head = cc in
+          subst (λ (g : PlacementHead). (g .kind ≡ 6 → ⊥) → load ≡ firstLoad (g .r) (check .layers) s (g .first)) same is;
+    }
 
 -- what checking the rows gave
 pub records-refused : (m : Checked Rows) {check : RecordsCheck} {e : Refusal} → check ≡ recordsCheck m → check .verdict ≡ NotGood e → m ≡ refused e

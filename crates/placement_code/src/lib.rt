@@ -17,34 +17,39 @@ ghost use mathlib.Core.Path.{_≡_};
 ghost use Rattle.refusal.specs.Checked.{refused};
 ghost use Rattle.placement.specs.Placement.{readPlacement};
 ghost use Rattle.placement.specs.Answers.{placementChecked};
+ghost use Rattle.placement_code.specs.Loaded.{Handed};
+
+// What checking a placement gives, with the load of layer 0 beside an accepted one without feeders.
+pub struct LoadedCheck {
+    pub check: PlacementCheck,
+    pub load: usize,
+}
 
 // The answer that refuses.
-fn refuse(e: Refusal) -> PlacementCheck
-    ensures { λ check. ⌜ check ≡ placementChecked (refused e) ⌝ }
+fn refuse(e: Refusal) -> LoadedCheck
+    ensures { λ loaded. ⌜ loaded .check ≡ placementChecked (refused e) ⌝ }
 {
-    PlacementCheck {
-        answer: PlacementAnswer::Refused(e),
-        layers: [LayerHead { bound: 0, size: 0 }; 5],
-        dark: Dark {
-            count: 0,
-            nodes: [0; 255],
+    LoadedCheck {
+        check: PlacementCheck {
+            answer: PlacementAnswer::Refused(e),
+            layers: [LayerHead { bound: 0, size: 0 }; 5],
+            dark: Dark {
+                count: 0,
+                nodes: [0; 255],
+            },
+            feeders: FeederTable {
+                number: 0,
+                each: [0; 255],
+            },
         },
-        feeders: FeederTable {
-            number: 0,
-            each: [0; 255],
-        },
+        load: 0,
     }
 }
 
-// Checks a placement: its kind, n, r and the nodes out of service, then s, k, b and F, the layers' numbers, the rows, in kind 6 the
-// feeders after them, and the figure by the kind's rule.
-//
-// Accepted exactly where the bytes are the file of a placement with the documents' limits, rows in order that name no node out of
-// service and have no two nodes on one feeder, the packing of every layer and the formula's figure: `placement-accepted-iff` in
-// `placement`. The figure of an accepted placement holds whichever k of its n nodes fail, `survivors`, and in kind 6 whichever k of its
-// feeders, `survivors-at-most`.
-pub fn check_placement(bytes: &[u8]) -> PlacementCheck
-    ensures { λ check. ⌜ check ≡ placementChecked (readPlacement (now (bytes .entry))) ⌝ }
+// Checks a placement as `check_placement` does, and hands on the load that the packing test of layer 0 has counted.
+pub fn check_loaded(bytes: &[u8]) -> LoadedCheck
+    ensures { λ loaded. ⌜ loaded .check ≡ placementChecked (readPlacement (now (bytes .entry))) ⌝ }
+    ensures { λ loaded. ⌜ Handed (now (bytes .entry)) (loaded .check) (loaded .load) ⌝ }
 {
     let head = layers_base::read_base(bytes, FileKind::Placement);
     let head_verdict = head.verdict;
@@ -73,7 +78,8 @@ pub fn check_placement(bytes: &[u8]) -> PlacementCheck
     }
     let layers = numbers.heads;
     let first = numbers.next;
-    let records = records::check_records(bytes, first, kind, base, t, layers);
+    let loaded = records::check_records(bytes, first, kind, base, t, layers);
+    let records = loaded.records;
     let rows_verdict = records.verdict;
     if let Verdict::Refused(e) = rows_verdict {
         return refuse(e);
@@ -85,19 +91,36 @@ pub fn check_placement(bytes: &[u8]) -> PlacementCheck
     }
     let dark = base.dark;
     let feeders = records.table;
-    PlacementCheck {
-        answer: PlacementAnswer::Accepted(PlacementHead {
-            kind,
-            n: base.n,
-            r: base.r,
-            s,
-            k: t.k,
-            b,
-            figure: t.figure,
-            first,
-        }),
-        layers,
-        dark,
-        feeders,
+    LoadedCheck {
+        check: PlacementCheck {
+            answer: PlacementAnswer::Accepted(PlacementHead {
+                kind,
+                n: base.n,
+                r: base.r,
+                s,
+                k: t.k,
+                b,
+                figure: t.figure,
+                first,
+            }),
+            layers,
+            dark,
+            feeders,
+        },
+        load: loaded.load,
     }
+}
+
+// Checks a placement: its kind, n, r and the nodes out of service, then s, k, b and F, the layers' numbers, the rows, in kind 6 the
+// feeders after them, and the figure by the kind's rule.
+//
+// Accepted exactly where the bytes are the file of a placement with the documents' limits, rows in order that name no node out of
+// service and have no two nodes on one feeder, the packing of every layer and the formula's figure: `placement-accepted-iff` in
+// `placement`. The figure of an accepted placement holds whichever k of its n nodes fail, `survivors`, and in kind 6 whichever k of its
+// feeders, `survivors-at-most`.
+pub fn check_placement(bytes: &[u8]) -> PlacementCheck
+    ensures { λ check. ⌜ check ≡ placementChecked (readPlacement (now (bytes .entry))) ⌝ }
+{
+    let loaded = check_loaded(bytes);
+    loaded.check
 }

@@ -1,14 +1,21 @@
 -- `layers_code::check_rows` meets its contract: each return is a case of `checkRows`, over what the counting of rows, the test
 -- of their order, of the nodes out of service and the packing test ensure. Assumes nothing.
-use Prim.Native.Nat.{_+_, _*_, _^_, _≤_, _<_}
+use Prim.Native.Nat.{ℕ, _+_, _*_, _^_, _≤_, _<_}
 use native.Mathlib.Omega.{arith}
-use mathlib.Core.Path.{_≡_}
+use mathlib.Core.Path.{_≡_, _∙_}
 use lib.ListN.{length}
+use Rattle.refusal.specs.declared.Refusal.{Refusal}
+use Rattle.refusal.specs.declared.Verdict.{Verdict}
+use Rattle.refusal.specs.declared.Verdict.the-variants.{Good, Refused}
 use Rattle.crowding_code.proofs.AllRows.{rows-small}
 use Rattle.layers_code.proofs.RowsAnswers.{rows-short, rows-long, rows-unordered, rows-ordered, rows-dark, rows-left}
 use borrow.Author.Needs.{needs}
 use Rattle.layers_code.proofs.check_rows.Statement.{statement}
 use Rattle.layers_code.proofs.check_rows.Tie as tie
+
+-- an answer that refuses hands on no load
+refusing : {v w : Verdict} {e : Refusal} {X : Type 0} → v ≡ Refused e → Refused e ≡ w → (v ≡ w) × (v ≡ Good → X)
+refusing is why = (is ∙ why, λ good. absurd (let z : _≡_ {A = ℕ} 0 1 = cc in omega arith))
 
 count-rows-requires : tie.Need-count-rows-requires
 count-rows-requires c κs = search needs
@@ -30,13 +37,17 @@ add-end : tie.Need-add-end
 add-end c =
     omega (arith, fits c)
 
+refuse-requires : tie.Need-refuse-requires
+refuse-requires c κs = search needs
+
 returns : tie.Need-returns
-returns c =
-    rows-short _ _ _ _ _ (c .before .count-rows .ensures) (c .if1 .taken)
+returns c = refusing (c .refuse .ensures) (rows-short _ _ _ _ _ (c .before .before .count-rows .ensures) (c .before .if1 .taken))
+
+refuse-requires-2 : tie.Need-refuse-requires-2
+refuse-requires-2 c κs = search needs
 
 returns-2 : tie.Need-returns-2
-returns-2 c =
-    rows-long _ _ _ _ _ (c .before .before .count-rows .ensures) (c .if2 .taken)
+returns-2 c = refusing (c .refuse2 .ensures) (rows-long _ _ _ _ _ (c .before .before .before .count-rows .ensures) (c .before .if2 .taken))
 
 check-ascending-requires : tie.Need-check-ascending-requires
 check-ascending-requires c κs = search needs
@@ -44,11 +55,15 @@ check-ascending-requires c κs = search needs
 enum-known-order : tie.Need-enum-known-order
 enum-known-order c = search needs
 
+refuse-requires-3 : tie.Need-refuse-requires-3
+refuse-requires-3 c κs = search needs
+
 returns-3 : tie.Need-returns-3
 returns-3 c =
-    let order = c .before .before .before in
-    rows-unordered _ _ _ _ _ (order .before .before .before .count-rows .ensures) (omega (arith, order .before .if2 .left, order .before .before .if1 .left)) _
-    (order .check-ascending .ensures) (c .before .order .given .1)
+    let order = c .before .before .before .before in
+    refusing (c .refuse3 .ensures)
+    (rows-unordered _ _ _ _ _ (order .before .before .before .count-rows .ensures) (omega (arith, order .before .if2 .left, order .before .before .if1 .left)) _
+    (order .check-ascending .ensures) (c .before .before .order .given .1))
 
 enum-told : tie.Need-enum-told
 enum-told c = search needs
@@ -67,18 +82,22 @@ check-service-requires c κs =
 enum-known-service : tie.Need-enum-known-service
 enum-known-service c = search needs
 
+refuse-requires-4 : tie.Need-refuse-requires-4
+refuse-requires-4 c κs = search needs
+
 returns-4 : tie.Need-returns-4
 returns-4 c =
-    let service = c .before .before .before in
+    let service = c .before .before .before .before in
     let order = service .before .before .before in
-    rows-dark _ _ _ _ _ (order .before .before .before .count-rows .ensures) (ends order) _ (order .check-ascending .ensures)
-    (service .before .enum-told .given .1) _ (service .check-service .ensures) (c .before .service .given .1)
+    refusing (c .refuse4 .ensures)
+    (rows-dark _ _ _ _ _ (order .before .before .before .count-rows .ensures) (ends order) _ (order .check-ascending .ensures)
+    (service .before .enum-told .given .1) _ (service .check-service .ensures) (c .before .before .service .given .1))
 
 enum-told-2 : tie.Need-enum-told-2
 enum-told-2 c = search needs
 
-check-packings-requires : tie.Need-check-packings-requires
-check-packings-requires c κs =
+first-load-requires : tie.Need-first-load-requires
+first-load-requires c κs =
     let service = c .before .before in
     let order = service .before .before .before in
     let counted = order .before .before .before in
@@ -91,12 +110,19 @@ check-packings-requires c κs =
       ordered = rows-ordered _ _ _ _ _ (counted .count-rows .ensures) (ends order) _ (order .check-ascending .ensures) (service .before .enum-told .given .1);
     }
 
+check-packings-requires : tie.Need-check-packings-requires
+check-packings-requires c κs = (first-load-requires (c .before) κs, c .first-load .ensures)
+
 returns-5 : tie.Need-returns-5
 returns-5 c =
-    let service = c .before .before .before in
+    let load = c .before in
+    let service = load .before .before .before in
     let order = service .before .before .before in
-    rows-left _ _ _ _ _ (order .before .before .before .count-rows .ensures) (ends order) _ (order .check-ascending .ensures)
-    (service .before .enum-told .given .1) _ (service .check-service .ensures) (c .before .enum-told2 .given .1) (c .check-packings .ensures)
+    (
+      rows-left _ _ _ _ _ (order .before .before .before .count-rows .ensures) (ends order) _ (order .check-ascending .ensures)
+      (service .before .enum-told .given .1) _ (service .check-service .ensures) (load .before .enum-told2 .given .1) (c .check-packings .ensures),
+      λ good. load .first-load .ensures,
+    )
 
 pub check-rows-spec : {M : Type 1} → statement M
 check-rows-spec =
@@ -105,15 +131,20 @@ check-rows-spec =
     count-rows-requires
     mul-end
     add-end
+    refuse-requires
     returns
+    refuse-requires-2
     returns-2
     check-ascending-requires
     enum-known-order
+    refuse-requires-3
     returns-3
     enum-told
     check-service-requires
     enum-known-service
+    refuse-requires-4
     returns-4
     enum-told-2
+    first-load-requires
     check-packings-requires
     returns-5)

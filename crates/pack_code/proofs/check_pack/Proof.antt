@@ -64,7 +64,7 @@ returns-3 c =
     let b = l .before .before .before .before in
     c .refuse3 .ensures
     ∙ pack-no-rows _ _ (b .before .before .read-base .ensures) (b .enum-told .given .1) _ (l .before .before .read-layers .ensures)
-    (l .enum-told2 .given .1) _ (c .before .before .before .before .check-rows .ensures) (c .before .before .rows-verdict .given .1)
+    (l .enum-told2 .given .1) _ (c .before .before .before .before .check-rows .ensures .0) (c .before .before .rows-verdict .given .1)
 
 enum-told-3 : tie.Need-enum-told-3
 enum-told-3 c = search needs
@@ -75,7 +75,7 @@ returns-4 c =
     let l = rows .before .before .before .before in
     let b = l .before .before .before .before in
     pack-good _ _ (b .before .before .read-base .ensures) (b .enum-told .given .1) _ (l .before .before .read-layers .ensures)
-    (l .enum-told2 .given .1) _ (rows .before .before .check-rows .ensures) (rows .enum-told3 .given .1)
+    (l .enum-told2 .given .1) _ (rows .before .before .check-rows .ensures .0) (rows .enum-told3 .given .1)
 
 pub check-pack-spec : {M : Type 1} → statement M
 check-pack-spec =

@@ -1,16 +1,15 @@
 -- The line of `check`, from the answer of the placement's check. Assumes nothing.
-use Prim.Native.Nat.{ℕ, _*_, _-_, _≤_}
+use Prim.Native.Nat.{ℕ, _+_, _*_, _≤_}
 use native.Mathlib.Omega.{arith}
 use mathlib.Core.Path.{_≡_, refl, sym, _∙_, ap, subst}
 use mathlib.Core.List.{List}
-use lib.ListN.{length, take, drop, length-drop}
+use lib.ListN.{length}
 use lib.Dec.{T}
 use Rattle.lists.specs.Lists.{All}
 use Rattle.lists.proofs.Alls.{all-imp}
-use Rattle.lists.proofs.Writing.{take-drop-rest}
 use Rattle.refusal.specs.declared.Refusal.{Refusal}
 use Rattle.refusal.specs.Checked.{Checked, accepted, refused}
-use Rattle.packing.specs.Rows.{Row, inOrder, rowsAt}
+use Rattle.packing.specs.Rows.{Row, inOrder}
 use Rattle.packing.specs.Load.{most}
 use Rattle.layers.specs.Layers.{Located, allRows}
 use Rattle.placement.specs.Placement.{Placement, readPlacement, checkPlacement}
@@ -21,11 +20,8 @@ use Rattle.placement.specs.declared.PlacementAnswer.the-variants.{Accepted, Ref
 use Rattle.placement.specs.declared.PlacementCheck.{PlacementCheck}
 use Rattle.placement.proofs.Rows.{rows-in}
 use Rattle.report.specs.Load.{mean}
+use Rattle.report_check.specs.Load.{rowsOf}
 use Rattle.report.specs.Programs.{acceptedLine, refusedLine, summary, checkLine}
-
--- the input from the first row on, as the code lends it
-abbrev rowsPart : (input : List ℕ) (first : ℕ) → List ℕ
-rowsPart input first = take (length input - first) (drop first input)
 
 -- An accepted input's rows stand from its first row's place on and are all in order, and its line has these numbers.
 pub record LineOf (input : List ℕ) (h : PlacementHead) : Type 0 where
@@ -33,9 +29,8 @@ pub record LineOf (input : List ℕ) (h : PlacementHead) : Type 0 where
   pub n-most : h .n ≤ 255
   pub r-most : h .r ≤ 5
   pub b-most : h .b ≤ 4_096
-  pub inside : h .first ≤ length input
-  pub room : h .b * h .r ≤ length (rowsPart input (h .first))
-  pub ordered : All (λ row. T (inOrder (h .n) row)) (rowsAt (h .r) (h .b) (rowsPart input (h .first)))
+  pub within : h .first + h .b * h .r ≤ length input
+  pub ordered : All (λ row. T (inOrder (h .n) row)) (rowsOf input h (h .b))
   pub line : checkLine input
       ≡ acceptedLine
       (record {
@@ -43,7 +38,7 @@ pub record LineOf (input : List ℕ) (h : PlacementHead) : Type 0 where
         b = h .b;
         k = h .k;
         n = h .n;
-        most = most (h .n) (rowsAt (h .r) (h .b) (rowsPart input (h .first)));
+        most = most (h .n) (rowsOf input h (h .b));
         mean = mean (h .b) (h .r) (h .n);
       })
 
@@ -53,18 +48,16 @@ line-of-accepted input file e =
     let p = file .content in
     let l = rows-in input file e in
     let base = l .good .limits .base in
-    let part = take-drop-rest input (file .first) in
     record {
       n-least = omega (arith, base .n-least);
       n-most = base .n-most;
       r-most = base .r-most;
       b-most = l .good .limits .order .b-most;
-      inside = omega (arith, l .ends);
-      room = rw (part, length-drop (file .first) input) (omega (arith, l .ends));
+      within = l .ends;
       ordered =
-          rw (part, l .rows)
+          rw (l .rows)
           (all-imp (Row (p .n) (p .r)) (λ row. T (inOrder (p .n) row)) (λ row h. h .1) (allRows (p .layers)) (l .good .rows));
-      line = rw (part, l .rows, e);
+      line = rw (l .rows, e);
     }
 
 -- what the code's answer says

@@ -1,8 +1,8 @@
 -- `crowding_code::packings::check_packings` meets its contract. The loop's invariant: the first crowded row of the layers from
--- the present one on is that of all layers. The measure is how many layers are left. Assumes nothing.
+-- the present one on is that of all layers, and layer 0 starts where the rows do. The measure is how many layers are left. Assumes nothing.
 use Prim.Native.Nat.{_+_, _*_, _-_, _≤_}
 use native.Mathlib.Omega.{arith}
-use mathlib.Core.Path.{_≡_, _∙_, ap}
+use mathlib.Core.Path.{_≡_, refl, _∙_, ap}
 use lib.ListN.{length, take, drop, getD, length-drop}
 use Rattle.lists.proofs.Writing.{take-drop-rest}
 use Rattle.refusal.specs.declared.Refusal.the-variants.{Crowded}
@@ -14,19 +14,19 @@ use Rattle.crowding_code.proofs.packings.check_packings.Statement.{stat
 use Rattle.crowding_code.proofs.packings.check_packings.Tie as tie
 
 abbrev Inv-loop : tie.InvT-loop
-Inv-loop bytes at r layers heads start₀ x₀ start x = CrowdTurn r layers heads bytes at start x
+Inv-loop bytes at r layers load heads start₀ x₀ start x = CrowdTurn r layers heads bytes at start x × (x ≡ 0 → start ≡ at)
 
 abbrev μ-loop : tie.MeasureT-loop
-μ-loop bytes at r layers heads start₀ x₀ start x = layers - x
+μ-loop bytes at r layers load heads start₀ x₀ start x = layers - x
 
 loop-holds : tie.Need-loop-holds Inv-loop μ-loop
 loop-holds c =
-    crowd-holds _ _ _ _ _ (c .before .pre)
+    (crowd-holds _ _ _ _ _ (c .before .pre .0), λ first. refl)
 
 -- the layers that are looked at are in the array
 held : (c : tie.In-loop Inv-loop μ-loop) → c .before .before .before .args .layers ≤ length (c .before .before .before .args .t5)
 held c =
-    let p = c .before .before .before .pre in
+    let p = c .before .before .before .pre .0 in
     omega (arith, p .few, p .r-most)
 
 -- the layer's rows are within the bytes
@@ -34,7 +34,7 @@ fitting : (c : tie.In-loop Inv-loop μ-loop)
     → let a = c .before .before .before .args in
     let size = getD (a .t5) (c .before .loop .x) noHead .size in
     (size ≤ 4_096) × (c .before .loop .start + size * a .r ≤ length (a .bytes .now))
-fitting c = crowd-fits _ _ _ _ _ _ _ (c .before .loop .inv) (c .loop-test .taken) (held c)
+fitting c = crowd-fits _ _ _ _ _ _ _ (c .before .loop .inv .0) (c .loop-test .taken) (held c)
 
 -- the part of the bytes that begins at the layer's first row
 part : (c : tie.In-loop Inv-loop μ-loop)
@@ -49,23 +49,26 @@ mul-head c = search needs
 array-copy-out-head : tie.Need-array-copy-out-head Inv-loop μ-loop
 array-copy-out-head c = search needs
 
-sub-first-crowded : tie.Need-sub-first-crowded Inv-loop μ-loop
-sub-first-crowded c = search needs
+sub-layer-crowded : tie.Need-sub-layer-crowded Inv-loop μ-loop
+sub-layer-crowded c = search needs
 
-part-first-crowded-start : tie.Need-part-first-crowded-start Inv-loop μ-loop
-part-first-crowded-start c =
+part-layer-crowded-start : tie.Need-part-layer-crowded-start Inv-loop μ-loop
+part-layer-crowded-start c =
     omega (arith, fitting (c .before))
 
-part-first-crowded-end : tie.Need-part-first-crowded-end Inv-loop μ-loop
-part-first-crowded-end c = search needs
+part-layer-crowded-end : tie.Need-part-layer-crowded-end Inv-loop μ-loop
+part-layer-crowded-end c = search needs
 
-first-crowded-requires : tie.Need-first-crowded-requires Inv-loop μ-loop
-first-crowded-requires c κs =
+layer-crowded-requires : tie.Need-layer-crowded-requires Inv-loop μ-loop
+layer-crowded-requires c κs =
     let l = c .before .before in
     let fits = fitting l in
-    let asked = l .before .before .before .pre in (
+    let (asked, counted) = l .before .before .before .pre in (
       (fits .0, asked .r-most, omega (arith, l .loop-test .taken, asked .few), rw (part l, length-drop) (omega arith)),
-      rw (part l) (crowd-ordered _ _ _ _ _ _ _ (l .before .loop .inv) (l .loop-test .taken) (held l)),
+      (
+        rw (part l) (crowd-ordered _ _ _ _ _ _ _ (l .before .loop .inv .0) (l .loop-test .taken) (held l)),
+        λ first. rw (part l, l .before .loop .inv .1 first, first) (counted (omega (arith, l .loop-test .taken))),
+      ),
     )
 
 enum-known-found : tie.Need-enum-known-found Inv-loop μ-loop
@@ -75,16 +78,16 @@ row-start-requires : tie.Need-row-start-requires Inv-loop μ-loop
 row-start-requires c κs =
     let l = c .before .before .before .before .before .before in
     let fits = fitting l in
-    let place = crowd-place _ _ _ _ _ _ _ (l .before .loop .inv) (l .loop-test .taken) (held l) _ (part l) _
-    (c .before .before .before .first-crowded .ensures) (c .before .found .given .1) in
+    let place = crowd-place _ _ _ _ _ _ _ (l .before .loop .inv .0) (l .loop-test .taken) (held l) _ (part l) _
+    (c .before .before .before .layer-crowded .ensures) (c .before .found .given .1) in
     omega (arith, l .before .before .before .good .0)
 
 returns : tie.Need-returns Inv-loop μ-loop
 returns c =
     let l = c .before .before .before .before .before .before .before in
     ap (λ place. Refused (Crowded place)) (c .row-start .ensures)
-    ∙ crowd-found _ _ _ _ _ _ _ (l .before .loop .inv) (l .loop-test .taken) (held l) _ (part l) _
-    (c .before .before .before .before .first-crowded .ensures) (c .before .before .found .given .1)
+    ∙ crowd-found _ _ _ _ _ _ _ (l .before .loop .inv .0) (l .loop-test .taken) (held l) _ (part l) _
+    (c .before .before .before .before .layer-crowded .ensures) (c .before .before .found .given .1)
 
 enum-told : tie.Need-enum-told Inv-loop μ-loop
 enum-told c = search needs
@@ -110,12 +113,15 @@ loop-less c = search needs
 loop-again : tie.Need-loop-again Inv-loop μ-loop
 loop-again c =
     let l = c .before .before .before .before .before in
-    crowd-again _ _ _ _ _ _ _ (l .before .loop .inv) (l .loop-test .taken) (held l) _ (part l) _
-    (c .before .before .first-crowded .ensures) (c .enum-told .given .1)
+    (
+      crowd-again _ _ _ _ _ _ _ (l .before .loop .inv .0) (l .loop-test .taken) (held l) _ (part l) _
+      (c .before .before .layer-crowded .ensures) (c .enum-told .given .1),
+      λ first. absurd (omega arith),
+    )
 
 returns-2 : tie.Need-returns-2 Inv-loop μ-loop
 returns-2 c =
-    crowd-done _ _ _ _ _ _ _ (c .before .loop .inv) (c .loop-test .left)
+    crowd-done _ _ _ _ _ _ _ (c .before .loop .inv .0) (c .loop-test .left)
 
 pub check-packings-spec : {M : Type 1} → statement M
 check-packings-spec =
@@ -126,10 +132,10 @@ check-packings-spec =
     loop-holds
     mul-head
     array-copy-out-head
-    sub-first-crowded
-    part-first-crowded-start
-    part-first-crowded-end
-    first-crowded-requires
+    sub-layer-crowded
+    part-layer-crowded-start
+    part-layer-crowded-end
+    layer-crowded-requires
     enum-known-found
     row-start-requires
     returns

@@ -72,8 +72,8 @@ returns c =
 enum-told : tie.Need-enum-told
 enum-told c = search needs
 
-check-packings-requires : tie.Need-check-packings-requires
-check-packings-requires c κs =
+first-load-requires : tie.Need-first-load-requires
+first-load-requires c κs =
     let k = c .before .before .before .before in
     let a = k .before .before .args in
     let p = k .before .before .pre in
@@ -85,11 +85,15 @@ check-packings-requires c κs =
       ordered = units-ascend (a .number) (a .r) (a .at) _ (take (a .layers) (a .heads)) (a .fed .now) _ (part k) (k .count-rows .ensures) _ (c .before .before .first-bad .ensures) (c .enum-told .given .1);
     }
 
+check-packings-requires : tie.Need-check-packings-requires
+check-packings-requires c κs = (first-load-requires (c .before) κs, c .first-load .ensures)
+
 returns-2 : tie.Need-returns-2
 returns-2 c =
-    let k = c .before .before .before .before .before in
+    let told = c .before .before in
+    let k = told .before .before .before .before in
     let a = k .before .before .args in
-    units-left (a .number) (a .r) (a .at) _ (take (a .layers) (a .heads)) (a .fed .now) _ (part k) (k .count-rows .ensures) _ (c .before .before .before .first-bad .ensures) (c .before .enum-told .given .1)
+    units-left (a .number) (a .r) (a .at) _ (take (a .layers) (a .heads)) (a .fed .now) _ (part k) (k .count-rows .ensures) _ (told .before .before .first-bad .ensures) (told .enum-told .given .1)
     (c .check-packings .ensures)
 
 pub check-units-spec : {M : Type 1} → statement M
@@ -105,5 +109,6 @@ check-units-spec =
     row-start-requires
     returns
     enum-told
+    first-load-requires
     check-packings-requires
     returns-2)
