@@ -5,17 +5,17 @@ use native.Mathlib.Omega.{arith}
 use native.Mathlib.Nat.{le-refl, le-trans, not-suc-le-zero}
 use mathlib.Core.Path.{_≡_, refl}
 use mathlib.Core.Logic.{_↔_}
-use mathlib.Core.Bool.{Bool, true, false, _||_, true≢false}
+use mathlib.Core.Bool.{false}
 use mathlib.Core.List.{List, [], _∷_, map, flatten}
 use mathlib.Core.Option.{Option, none, some}
 use lib.ListN.{length}
 use lib.Dec.{ltb}
 use borrow.Author.Tests.{le-ltb, ltb-false}
-use Rattle.lists.specs.Lists.{All, any, count, largest}
+use Rattle.lists.specs.Lists.{All, count, largest}
 use Rattle.lists.proofs.Alls.{all-append-left, all-append-right, all-of, all-imp, all-map, all-of-map, all-flatten}
 use Rattle.lists.proofs.Counts.{count-le-length}
 use Rattle.lists.proofs.Tests.{true-T}
-use Rattle.lists.proofs.Finds.{firstWhere-none, none-firstWhere, any-none}
+use Rattle.lists.proofs.Finds.{firstWhere-none, none-firstWhere, any-none, none-any}
 use Rattle.binomial.proofs.Laws.{choose-positive}
 use Rattle.packing.specs.Rows.{Row, Packing, SetIn, holds, together, subsets, crowded, firstCrowded}
 use Rattle.packing.proofs.Members.{row-distinct}
@@ -36,16 +36,6 @@ all-largest [] m h = omega arith
 all-largest (v ∷ l) m h = omega (arith, h .0, all-largest l m (h .1))
 
 module _ {A : Type 0} where
-  -- a test that no element passes fails at each
-  none-any : (f : A → Bool) (l : List A) → any f l ≡ false → All (λ a. f a ≡ false) l
-  unfolding any
-  none-any f [] e = tt
-  none-any f (a ∷ l) e = go (f a) refl e (none-any f l)
-    where
-      go : (b : Bool) → f a ≡ b → (b || any f l) ≡ false → (any f l ≡ false → All (λ a. f a ≡ false) l) → All (λ a. f a ≡ false) (a ∷ l)
-      go true p q ih = absurd (true≢false q)
-      go false p q ih = (p, ih q)
-
   of-flatten : (P : A → Type 0) (ls : List (List A)) → All P (flatten ls) → All (All P) ls
   unfolding flatten
   of-flatten P [] h = tt

@@ -1,9 +1,10 @@
 -- What the counts of sums say: a row that holds a set has its sum, so that no row is crowded where none of those that are kept is.
 -- Assumes nothing.
 use Prim.Native.Nat.{ℕ, zero, suc, _+_, _-_, _%_, max, _≤_, _<_}
+use native.Mathlib.Nat.{zero-add}
 use native.Mathlib.Omega.{arith}
-use mathlib.Core.Path.{_≡_, refl}
-use mathlib.Core.Bool.{Bool, true, false, cond, _||_}
+use mathlib.Core.Path.{_≡_, refl, sym}
+use mathlib.Core.Bool.{Bool, true, false, cond}
 use mathlib.Core.List.{List, [], _∷_, map}
 use mathlib.Core.Option.{none}
 use lib.ListN.{length, getD}
@@ -12,8 +13,8 @@ use borrow.Author.Tests.{eq-eqb, eqb-true, lt-ltb, ltb-true, ltb-false}
 use Rattle.lists.specs.Lists.{All, tally, count, total, any}
 use Rattle.lists.proofs.Tests.{T-true, true-T, false-T, and-left, and-right}
 use Rattle.lists.proofs.Alls.{all-imp, all-both}
-use Rattle.lists.proofs.Counts.{count-mono}
-use Rattle.lists.proofs.Finds.{firstWhere-none, none-firstWhere, any-none}
+use Rattle.lists.proofs.Counts.{tally-add, count-mono}
+use Rattle.lists.proofs.Finds.{firstWhere-none, none-firstWhere, any-none, none-any}
 use Rattle.packing.specs.Rows.{ascending, holds, together, subsets, SetIn, crowded, firstCrowded}
 use Rattle.packing.proofs.Members.{ascending-distinct}
 use Rattle.packing.proofs.Sets.{subsets-in}
@@ -30,20 +31,6 @@ same-weigh weights (u ∷ s) [] t = absurd t
 same-weigh weights (u ∷ s) (v ∷ nodes) t =
     let here : u ≡ v = eqb-true u v (true-T (eqb u v) (and-left (eqb u v) (sameNodes s nodes) t)) in
     rw (here, same-weigh weights s nodes (and-right (eqb u v) (sameNodes s nodes) t))
-
-one-more : (b : Bool) (n : ℕ) → tally b n ≡ tally b 0 + n
-one-more true n = omega arith
-one-more false n = omega arith
-
--- where `any` does not pass, no element does
-none-any : (f : List ℕ → Bool) (l : List (List ℕ)) → any f l ≡ false → All (λ s. f s ≡ false) l
-unfolding any
-none-any f [] e = tt
-none-any f (s ∷ l) e = go (f s) refl e (none-any f l)
-  where
-    go : (b : Bool) → f s ≡ b → b || any f l ≡ false → (any f l ≡ false → All (λ s. f s ≡ false) l) → (f s ≡ false) × All (λ s. f s ≡ false) l
-    go true p q ih = absurd (false-T q tt)
-    go false p q ih = (p, ih q)
 
 -- what holds of the rows that are kept, and of a row that passes
 kept-all : (P : List ℕ → Type 0) (f : List ℕ → Bool) (rows : List (List ℕ)) → All P (keptOf f rows) → All (λ row. T (f row) → P row) rows
@@ -118,7 +105,8 @@ module _ (weights : List ℕ) (d size : ℕ) (nodes : List ℕ) (len : length no
   unfolding together count total
   held-le f [] t e up = omega arith
   held-le f (row ∷ rows) t e up =
-      let first : together (row ∷ rows) nodes ≡ tally (holds row nodes) 0 + together rows nodes = one-more (holds row nodes) (together rows nodes) in
+      let first : together (row ∷ rows) nodes ≡ tally (holds row nodes) 0 + together rows nodes =
+      rw zero-add at (sym (tally-add (holds row nodes) 0 (together rows nodes))) in
       omega (arith, first, held-passes f row t (e .0) (up .0), held-le f rows t (e .1) (up .1))
 
 module _ (weights table : List ℕ) (d size bound : ℕ) (rows : List (List ℕ)) (lengths : All (λ row. length row ≡ size + d) rows)

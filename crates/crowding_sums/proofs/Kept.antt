@@ -9,7 +9,7 @@ use lib.Dec.{T}
 use lib.ListN.{length, take, drop, length-append, length-drop}
 use lib.Seq.{length-take-le}
 use Rattle.lists.specs.Lists.{All, total, overStart}
-use Rattle.lists.proofs.Alls.{all-imp}
+use Rattle.lists.proofs.Alls.{all-imp, length-flatten}
 use Rattle.lists.proofs.Arith.{run-end-le}
 use Rattle.lists.proofs.Counts.{flatten-append}
 use Rattle.lists.proofs.Writing.{givenBack, take-drop-rest, write-part}
@@ -39,11 +39,6 @@ kept-le f (row ∷ rows) = go (f row) (kept-le f rows)
     go : (b : Bool) → length (keptOf f rows) ≤ length rows → length (cond b (row ∷ keptOf f rows) (keptOf f rows)) ≤ length (row ∷ rows)
     go true le = omega arith
     go false le = omega arith
-
-flat-length : (r : ℕ) (rows : List (List ℕ)) → All (λ row. length row ≡ r) rows → length (flatten rows) ≡ length rows * r
-unfolding flatten
-flat-length r [] h = sym (zero-mul r)
-flat-length r (row ∷ rows) h = simp (length-append) (omega (arith, h .0, flat-length r rows (h .1)))
 
 -- of the first i rows those that pass, m of them, were written, up to byte `to`; the next row begins at byte `at`
 pub record Keeping (f : List ℕ → Bool) (rows : List ℕ) (c r : ℕ) (kept₀ kept : List ℕ) (i at m to : ℕ) : Type 0 where
@@ -86,7 +81,7 @@ module _ {f : List ℕ → Bool} {rows : List ℕ} {c r : ℕ} {kept₀ kept : L
       let lengths : All (λ row. length row ≡ r) before =
       all-kept (λ row. length row ≡ r) f (rowsAt r i rows) (rowsAt-lengths r i rows (omega (arith, run-end-le r h, whole))) in
       let few : length before ≤ i = omega (arith, kept-le f (rowsAt r i rows), length-rowsAt r i rows) in
-      omega (arith, k .end, flat-length r before lengths, mul-le-mul few (le-refl r), run-end-le r h)
+      omega (arith, k .end, length-flatten r before lengths, mul-le-mul few (le-refl r), run-end-le r h)
 
   pub keep-fits : length bytes ≤ length (take (length kept - to) (drop to kept))
   keep-fits =
@@ -163,7 +158,7 @@ keeping-all {f} {rows} {c} {r} {i = i} {to = to} k whole h =
     record {
       many = many;
       whole = rw (k .written, all)
-          (simp (length-append) (omega (arith, ap (λ n. n * r) many, flat-length r (keptOf f (rowsAt r c rows)) lengths)));
+          (simp (length-append) (omega (arith, ap (λ n. n * r) many, length-flatten r (keptOf f (rowsAt r c rows)) lengths)));
       are = rw (many, k .written, all) (rowsAt-flatten r (keptOf f (rowsAt r c rows)) _ lengths);
     }
 

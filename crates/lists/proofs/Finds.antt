@@ -3,7 +3,7 @@ use Prim.Native.Nat.{ℕ, zero, suc, _<_, suc-le-suc}
 use native.Mathlib.Nat.{not-suc-le-zero, le-of-suc-le-suc, zero-lt-suc}
 use native.Mathlib.Omega.{arith}
 use mathlib.Core.Path.{_≡_, refl, subst, ap, ap₂}
-use mathlib.Core.Bool.{Bool, true, false, cond, _||_}
+use mathlib.Core.Bool.{Bool, true, false, cond, _||_, true≢false}
 use mathlib.Core.List.{List, [], _∷_, map}
 use mathlib.Core.Option.{Option, none, some}
 use lib.ListN.{length, getD}
@@ -76,6 +76,16 @@ module _ {A : Type 0} where
   unfolding any
   any-none f [] h = refl
   any-none f (a ∷ l) h = rw (h .0) (any-none f l (h .1))
+
+  -- and where `any` does not pass, no element does
+  pub none-any : (f : A → Bool) (l : List A) → any f l ≡ false → All (λ a. f a ≡ false) l
+  unfolding any
+  none-any f [] e = tt
+  none-any f (a ∷ l) e = go (f a) refl e (none-any f l)
+    where
+      go : (b : Bool) → f a ≡ b → (b || any f l) ≡ false → (any f l ≡ false → All (λ a. f a ≡ false) l) → All (λ a. f a ≡ false) (a ∷ l)
+      go true p q ih = absurd (true≢false q)
+      go false p q ih = (p, ih q)
 
   -- tests that agree on the list's elements
   pub any-congr-all : (f g : A → Bool) (l : List A) → All (λ a. f a ≡ g a) l → any f l ≡ any g l
