@@ -88,7 +88,7 @@ def refusals():
 
 def sizes():
     """What lent slices and answers need at most: name, number, what it is. No constant of the Rattle source has the 254 and the 4."""
-    work, out = number("report", "WORK_MOST"), number("report", "OUTPUT_MOST")
+    work, out = number("replies", "WORK_MOST"), number("replies", "OUTPUT_MOST")
     return [("BAD_LENGTH", number("exports", "BAD_LENGTH"), "returned where a slice is not as long as stated: nothing is touched"),
             ("WORK_MOST", work, "entries of a working slice that every order can be planned in"),
             ("OUTPUT_MOST", out, "bytes of an output that every placement that is planned and every joined pack fits"),

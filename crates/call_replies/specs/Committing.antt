@@ -11,7 +11,8 @@ use Rattle.placement.specs.declared.Order.{Order}
 use Rattle.planner.specs.Planning.{workMost, outputMost}
 use Rattle.commit.specs.Asking.{Offer, offerValues, ask}
 use Rattle.commit.specs.Committing.{commit}
-use Rattle.report.specs.Programs.{rest, orRefusedLine, plannedReply}
+use Rattle.report.specs.Programs.{rest, orRefusedLine}
+use Rattle.replies.specs.Programs.{plannedReply}
 use Rattle.replies.specs.Replying.{withNumbers}
 use Rattle.replies.specs.Plans.{orderOf}
 

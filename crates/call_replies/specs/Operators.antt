@@ -9,7 +9,7 @@ use Rattle.refusal.specs.declared.Refusal.the-variants.{BadOrder, BadWish}
 use Rattle.planner.specs.Planning.{workMost, outputMost}
 use Rattle.operators.specs.Operators.{planOperator}
 use Rattle.operators.specs.declared.SharedOrder.{SharedOrder}
-use Rattle.report.specs.Programs.{plannedReply}
+use Rattle.replies.specs.Programs.{plannedReply}
 use Rattle.replies.specs.Replying.{withNumbers}
 
 -- "a pack, s, k, one operator's wish and the other's"

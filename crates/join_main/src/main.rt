@@ -7,7 +7,7 @@ ghost use Rattle.planner.specs.Planning.{outputMost};
 ghost use Rattle.report.specs.Replies.{Replied};
 ghost use Rattle.call_replies.specs.Join.{joinReply};
 use console::Taken;
-use report::OUTPUT_MOST;
+use replies::OUTPUT_MOST;
 use report::Reply;
 
 // Puts what is written for so many named files at the start of `out`, and answers its length: such a slice is never refused.

@@ -24,7 +24,8 @@ use Rattle.split.proofs.Named.{named}
 use Rattle.planner.specs.Planning.{splitPlacement, namedPlacement, workMost, outputMost}
 use Rattle.planner.proofs.Planned.{entries-most, bytes-most, plan-never-refuses, plan-accepted}
 use Rattle.report.specs.declared.Summary.{Summary}
-use Rattle.report.specs.Programs.{acceptedLine, summary, orRefusedLine, checkLine, readOrder, planInput, plannedReply, planReply}
+use Rattle.report.specs.Programs.{acceptedLine, summary, orRefusedLine, checkLine}
+use Rattle.replies.specs.Programs.{readOrder, planInput, plannedReply, planReply}
 use Rattle.replies.specs.Plans.{planProgram}
 use Rattle.replies.proofs.Programs.{plan-as-before}
 

@@ -27,11 +27,12 @@ use Rattle.planner.specs.Planning.{plan}
 use Rattle.planner.proofs.Padding.{plan-padded}
 use Rattle.report.specs.declared.Summary.{Summary}
 use Rattle.report.specs.Load.{mean, Rounded}
-use Rattle.report.specs.Programs.{acceptedLine, summary, orRefusedLine, checkLine, plannedReply, planReply}
+use Rattle.report.specs.Programs.{acceptedLine, summary, orRefusedLine, checkLine}
+use Rattle.report.proofs.Mean.{halfToEven-rounded, rounded-unique}
+use Rattle.replies.specs.Programs.{plannedReply, planReply}
 use Rattle.replies.specs.Plans.{planProgram}
 use Rattle.replies.proofs.Programs.{plan-as-before}
-use Rattle.report.proofs.Mean.{halfToEven-rounded, rounded-unique}
-use Rattle.report.proofs.Padding.{planInput-padded}
+use Rattle.replies.proofs.Padding.{planInput-padded}
 
 -- (a) "Our certificate office now rounds all site averages half to even. The mean that `check` prints follows": the mean in the
 -- line is within a half of b × r / n and even where it is just a half away, and it is the only such number.

@@ -99,5 +99,5 @@ starred = (
   placements .2,
   lines .0,
   lines .1,
-  lines .3,
+  lines .2,
 )

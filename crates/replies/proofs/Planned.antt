@@ -11,9 +11,10 @@ use Rattle.planner.specs.Planning.{outputAfter}
 use Rattle.planner.specs.Answers.{planAnswer}
 use Rattle.planner.specs.declared.PlanAnswer.the-variants.{Planned, Refused}
 use Rattle.planner.specs.declared.PlanResult.{PlanResult}
-use Rattle.report.specs.Programs.{refusedLine, plannedReply}
+use Rattle.report.specs.Programs.{refusedLine}
 use Rattle.report.specs.Replies.{Replied}
 use Rattle.report.proofs.Replies.{replied-of}
+use Rattle.replies.specs.Programs.{plannedReply}
 
 module _ (planned : Checked Placement) (before : List ℕ) {between : List ℕ} {result : PlanResult} (is : result ≡ planAnswer planned)
     (left : between ≡ outputAfter planned before) where

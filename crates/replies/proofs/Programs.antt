@@ -5,8 +5,8 @@ use mathlib.Core.List.{List, []}
 use Rattle.refusal.specs.Checked.{Checked, accepted, refused}
 use Rattle.number.specs.declared.Reading.{Reading}
 use Rattle.number.specs.Numbers.{readNumber}
-use Rattle.report.specs.Programs.{readOrder, planInput, plannedReply, planReply}
 use Rattle.text.specs.Numbers.{takeNumbers, given}
+use Rattle.replies.specs.Programs.{readOrder, planInput, plannedReply, planReply}
 use Rattle.replies.specs.Replying.{withNumbers}
 use Rattle.replies.specs.Plans.{planText, planProgram}
 

@@ -1,12 +1,18 @@
--- Replies by hand, by computation: lines, and numbers that can't be read. Assumes nothing.
-use mathlib.Core.Path.{_≡_, refl}
-use mathlib.Core.List.{[], _∷_, _++_}
+-- Replies by hand, by computation: lines, numbers that can't be read, and document 01's placement of nine records. Assumes nothing.
+use mathlib.Core.Path.{_≡_, refl, _∙_, ap}
+use mathlib.Core.List.{[], _∷_, _++_, flatten}
 use Rattle.refusal.specs.declared.Refusal.the-variants.{ShortOutput}
 use Rattle.refusal.specs.Checked.{accepted, refused}
+use Rattle.number.specs.Numbers.{readGroups, readNumber}
+use Rattle.packing.specs.SevenCabinets.{row245}
+use Rattle.pack.specs.SevenCabinets.{packBytes}
+use Rattle.placement.specs.SevenCabinets.{listedFile}
+use Rattle.planner.proofs.Worked.{orders}
 use Rattle.report.specs.Programs.{digits, decimal, rest, refusedWord}
 use Rattle.text.specs.declared.TextRefusal.the-variants.{Arguments, Unreadable, TooLong}
 use Rattle.text.specs.Decimal.{readDigits, readDecimal}
 use Rattle.text.specs.Numbers.{takeNumbers, given}
+use Rattle.replies.specs.Programs.{readOrder, planInput, plannedReply, planReply}
 use Rattle.replies.specs.Lines.{numbersLine, figureLines, textLine}
 use Rattle.replies.specs.Replying.{withNumbers, into}
 use Rattle.replies.specs.Plans.{planProgram}
@@ -19,6 +25,11 @@ pub lines : (numbersLine 5 (0 ∷ 13 ∷ []) ≡ 53 ∷ 32 ∷ 48 ∷ 32 ∷ 49 
     × (textLine (TooLong 9) ≡ refusedWord ++ (32 ∷ 50 ∷ 52 ∷ 32 ∷ 57 ∷ 10 ∷ []))
 unfolding digits decimal rest figureLines
 lines = (refl, refl, refl, refl, refl)
+
+-- `plan` with the numbers 2 3 9 and then P writes the whole file, by request (h) of kind 5
+pub nine : planReply (2 ∷ 3 ∷ 9 ∷ packBytes row245) ≡ listedFile (0 ∷ []) 5
+unfolding flatten readGroups readNumber packBytes readOrder planInput plannedReply planReply
+nine = ap plannedReply (orders .6) ∙ orders .7
 
 -- `plan 2`: `refused 12 1`; four arguments to `plan`: `refused 22 3`
 pub unread : (planProgram (50 ∷ 0 ∷ []) [] ≡ refusedWord ++ (32 ∷ 49 ∷ 50 ∷ 32 ∷ 49 ∷ 10 ∷ []))

@@ -1,3 +1,4 @@
 pub mod Lines
 pub mod Replying
+pub mod Programs
 pub mod Plans

@@ -1,11 +1,11 @@
--- What `plan` writes. Assumes nothing.
+-- What `plan` writes for its arguments and its input. Assumes nothing.
 use Prim.Native.Nat.{ℕ}
 use mathlib.Core.List.{List}
 use lib.ListN.{getD}
 use Rattle.refusal.specs.declared.Refusal.the-variants.{BadOrder}
 use Rattle.placement.specs.declared.Order.{Order}
 use Rattle.planner.specs.Planning.{plan, workMost, outputMost}
-use Rattle.report.specs.Programs.{plannedReply}
+use Rattle.replies.specs.Programs.{plannedReply}
 use Rattle.replies.specs.Replying.{withNumbers}
 
 -- the order: s, k, b

@@ -4,7 +4,7 @@ use mathlib.Core.List.{List}
 use Rattle.refusal.specs.declared.Refusal.the-variants.{BadOrder}
 use Rattle.planner.specs.Planning.{outputMost}
 use Rattle.certify.specs.Certify.{certify}
-use Rattle.report.specs.Programs.{plannedReply}
+use Rattle.replies.specs.Programs.{plannedReply}
 use Rattle.replies.specs.Replying.{withNumbers}
 
 -- the placement of these rows, or the line of the refusal, with an output that no bare rows need more of

@@ -1,7 +1,7 @@
 // The reply of the program `certify`, put into a slice that a caller lends: what it is, and the code.
 use planner::PlanAnswer;
 use refusal::Refusal;
-use report::OUTPUT_MOST;
+use replies::OUTPUT_MOST;
 use report::Reply;
 use text::GivenEnd;
 use text::TextRefusal;

@@ -2,7 +2,7 @@
 use placement::Order;
 use planner::PlanAnswer;
 use refusal::Refusal;
-use report::OUTPUT_MOST;
+use replies::OUTPUT_MOST;
 use report::Reply;
 use text::GivenEnd;
 use text::TextRefusal;

@@ -1,7 +1,7 @@
 // The reply of the program `join`, put into a slice that a caller lends.
 use join::Joined;
 use refusal::Refusal;
-use report::OUTPUT_MOST;
+use replies::OUTPUT_MOST;
 use report::Reply;
 use text::TextRefusal;
 ghost use Prim.Native.Nat.{_≤_};

@@ -11,8 +11,8 @@ use Rattle.planner.specs.declared.PlanAnswer.the-variants.{Planned, Refused}
 use Rattle.planner.specs.declared.PlanResult.{PlanResult}
 use Rattle.report.specs.Programs.{refusedLine}
 use Rattle.report.specs.Replies.{Replied}
-use Rattle.report.proofs.Slices.{plan-most}
 use Rattle.replies.specs.Plans.{planText}
+use Rattle.replies.proofs.Slices.{plan-most}
 use Rattle.replies.proofs.Planned.{planned-text, refused-text}
 
 module _ (pack : List ℕ) (order : Order) {work worked before between : List ℕ} {result : PlanResult}

@@ -2,5 +2,3 @@ pub mod Worked
 pub mod Prefix
 pub mod Mean
 pub mod Replies
-pub mod Slices
-pub mod Padding

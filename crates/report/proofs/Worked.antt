@@ -1,32 +1,25 @@
--- Document 01's line and reply for nine records, and lent slices at their limits, by computation. Assumes nothing.
+-- Document 01's line for nine records, means, and lent slices at their limits, by computation. Assumes nothing.
 use Prim.Native.Nat.{ℕ}
-use mathlib.Core.Path.{_≡_, refl, _∙_, ap}
+use mathlib.Core.Path.{_≡_, refl, ap}
 use mathlib.Core.List.{List, [], _∷_, _++_, flatten}
 use Rattle.lists.specs.Lists.{count, largest, upTo}
 use Rattle.refusal.specs.declared.Refusal.the-variants.{ShortOutput}
 use Rattle.refusal.specs.Checked.{accepted, refused, mapAccepted}
-use Rattle.number.specs.Numbers.{readGroups, readNumber}
 use Rattle.packing.specs.Rows.{member}
-use Rattle.packing.specs.SevenCabinets.{row245}
-use Rattle.pack.specs.SevenCabinets.{packBytes}
 use Rattle.placement.specs.SevenCabinets.{placementFile, listedFile, sevenPlacement}
 use Rattle.placement.proofs.Worked.{placements, placements-of-kind-3, placements-of-kind-5}
-use Rattle.planner.proofs.Worked.{orders}
 use Rattle.report.specs.Load.{halfToEven, mean}
-use Rattle.report.specs.Programs.{digits, decimal, rest, acceptedWord, acceptedLine, summary, orRefusedLine, checkLine, readOrder, planInput, plannedReply, planReply}
+use Rattle.report.specs.Programs.{digits, decimal, rest, acceptedWord, acceptedLine, summary, orRefusedLine, checkLine}
 use Rattle.report.specs.Replies.{checkInto}
 
--- "`check` prints `accepted 5 9 3 7 4 4`", for kinds 2, 3 and 5; `plan` with the numbers 2 3 9 and then P writes the whole file, by
--- request (h) of kind 5
+-- "`check` prints `accepted 5 9 3 7 4 4`", for kinds 2, 3 and 5
 pub lines : (checkLine (placementFile 2 5) ≡ acceptedWord ++ (32 ∷ 53 ∷ 32 ∷ 57 ∷ 32 ∷ 51 ∷ 32 ∷ 55 ∷ 32 ∷ 52 ∷ 32 ∷ 52 ∷ 10 ∷ []))
     × (checkLine (placementFile 3 5) ≡ acceptedWord ++ (32 ∷ 53 ∷ 32 ∷ 57 ∷ 32 ∷ 51 ∷ 32 ∷ 55 ∷ 32 ∷ 52 ∷ 32 ∷ 52 ∷ 10 ∷ []))
-    × (planReply (2 ∷ 3 ∷ 9 ∷ packBytes row245) ≡ listedFile (0 ∷ []) 5)
     × (checkLine (listedFile (0 ∷ []) 5) ≡ acceptedWord ++ (32 ∷ 53 ∷ 32 ∷ 57 ∷ 32 ∷ 51 ∷ 32 ∷ 55 ∷ 32 ∷ 52 ∷ 32 ∷ 52 ∷ 10 ∷ []))
-unfolding count largest upTo flatten member readGroups readNumber packBytes sevenPlacement halfToEven digits decimal rest summary checkLine readOrder planInput plannedReply planReply
+unfolding count largest upTo flatten member sevenPlacement halfToEven digits decimal rest summary checkLine
 lines = (
   ap (λ a. orRefusedLine (mapAccepted (λ p. acceptedLine (summary p)) a)) (placements .1),
   ap (λ a. orRefusedLine (mapAccepted (λ p. acceptedLine (summary p)) a)) (placements-of-kind-3 .0),
-  ap plannedReply (orders .6) ∙ orders .7,
   ap (λ a. orRefusedLine (mapAccepted (λ p. acceptedLine (summary p)) a)) (placements-of-kind-5 .1),
 )
 

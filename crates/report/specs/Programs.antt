@@ -1,19 +1,13 @@
--- Document 01, "Row walk and programs": what the programs write for any input. Assumes nothing.
+-- Document 01, "Row walk and programs": the programs' lines, and what `check` writes for any input. Assumes nothing.
 use Prim.Native.Nat.{ℕ, zero, suc, _+_, _/_, _%_}
 use mathlib.Core.Bool.{cond}
 use mathlib.Core.List.{List, [], _∷_, _++_}
-use lib.ListN.{drop}
 use lib.Dec.{ltb}
 use Rattle.refusal.specs.declared.Refusal.{Refusal}
-use Rattle.refusal.specs.declared.Refusal.the-variants.{BadOrder}
 use Rattle.refusal.specs.Refusals.{numberOf, placeOf}
-use Rattle.refusal.specs.Checked.{Checked, accepted, refused, _>>=_, mapAccepted}
-use Rattle.number.specs.Numbers.{readNumber}
-use Rattle.number.specs.declared.Reading.{Reading}
+use Rattle.refusal.specs.Checked.{Checked, accepted, refused, mapAccepted}
 use Rattle.layers.specs.Layers.{allRows}
-use Rattle.placement.specs.Placement.{Placement, checkPlacement, placementBytes}
-use Rattle.placement.specs.declared.Order.{Order}
-use Rattle.planner.specs.Planning.{plan, workMost, outputMost}
+use Rattle.placement.specs.Placement.{Placement, checkPlacement}
 use Rattle.packing.specs.Load.{most}
 use Rattle.report.specs.declared.Summary.{Summary}
 use Rattle.report.specs.Load.{mean}
@@ -68,35 +62,3 @@ orRefusedLine (refused e) = refusedLine e
 -- "`check` reads a placement on standard input": what it writes
 unfoldable pub checkLine : (input : List ℕ) → List ℕ
 checkLine input = orRefusedLine (mapAccepted (λ p. acceptedLine (summary p)) (checkPlacement input))
-
--- one of the three numbers: those "that can't be read give 12 and the first bad one's index"
-abbrev pub orderNumber : (index : ℕ) → Checked Reading → Checked Reading
-orderNumber index (accepted number) = accepted number
-orderNumber index (refused e) = refused (BadOrder index)
-
--- the order that is read, and the place of the pack after it
-pub record OrderReading : Type 0 where
-  pub order : Order
-  pub at : ℕ
-
--- "`plan` reads s, k, b as numbers"
-unfoldable pub readOrder : (input : List ℕ) → Checked OrderReading
-readOrder input = do
-  s ← orderNumber 0 (readNumber input 0)
-  k ← orderNumber 1 (readNumber input (s .next))
-  b ← orderNumber 2 (readNumber input (k .next))
-  accepted (record { order = record { s = s .value; k = k .value; b = b .value }; at = b .next })
-
--- "then a pack ..; places counted from the pack's first byte": planned with slices that no order needs more of
-unfoldable pub planInput : (input : List ℕ) → Checked Placement
-planInput input = do
-  read ← readOrder input
-  plan (drop (read .at) input) (read .order) workMost outputMost
-
--- "and writes the placement or the refused line"
-unfoldable pub plannedReply : Checked Placement → List ℕ
-plannedReply planned = orRefusedLine (mapAccepted placementBytes planned)
-
--- what it writes
-unfoldable pub planReply : (input : List ℕ) → List ℕ
-planReply input = plannedReply (planInput input)

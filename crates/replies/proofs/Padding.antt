@@ -8,7 +8,7 @@ use Rattle.refusal.specs.Checked.{Checked, _>>=_}
 use Rattle.refusal.specs.Agree.{Agree, both-accepted, both-refused}
 use Rattle.number.specs.declared.Reading.{Reading}
 use Rattle.layers.proofs.Padding.{Padded, padded-none, readNumber-padded}
-use Rattle.report.specs.Programs.{orderNumber, readOrder, planInput}
+use Rattle.replies.specs.Programs.{orderNumber, readOrder, planInput}
 
 module _ {A B : Type 0} {R : Reading → Reading → Type 0} where
   -- a number that can't be read gives 12 with its index in both

@@ -15,7 +15,7 @@ use Rattle.planner.specs.Planning.{workNeeded, outputNeeded, workMost, outputMo
 use Rattle.planner.proofs.Checks.{order-within, work-good, output-good}
 
 -- "r 2..5"
-pack-r : (bytes : List ℕ) (pack : Pack) → checkPack bytes ≡ accepted pack → pack .r ≤ 5
+pub pack-r : (bytes : List ℕ) (pack : Pack) → checkPack bytes ≡ accepted pack → pack .r ≤ 5
 unfolding checkPack
 pack-r bytes pack e =
     let (file, read, same) = mapAccepted-accepted (λ file. file .content) (readPack bytes) e in
@@ -23,10 +23,10 @@ pack-r bytes pack e =
     rw (← same) r-most
 
 module _ (n r : ℕ) (order : Order) (o : OrderLimits n r order) (r-most : r ≤ 5) where
-  work-most : workNeeded (order .s) (order .b) ≤ workMost
+  pub work-most : workNeeded (order .s) (order .b) ≤ workMost
   work-most = let s-most : order .s ≤ 5 = omega (arith, o .s-most) in mul-le-mul s-most (suc-le-suc (o .b-most))
 
-  output-most : outputNeeded (order .b) r ≤ outputMost
+  pub output-most : outputNeeded (order .b) r ≤ outputMost
   output-most = let rows : order .b * r ≤ 4_096 * 5 = mul-le-mul (o .b-most) r-most in omega arith
 
 pub plan-most : (bytes : List ℕ) (order : Order) (work output : ℕ) → workMost ≤ work → outputMost ≤ output
