@@ -6,10 +6,10 @@ use mathlib.Core.List.{List, [], _∷_, map}
 use mathlib.Core.Option.{Option, none, some}
 use native.Mathlib.Omega.{arith}
 use lib.ListN.{length, getD}
-use lib.Dec.{T, eqb, leb, ltb}
-use borrow.Author.Tests.{leb-true, le-ltb, lt-ltb}
+use lib.Dec.{T, ltb}
+use borrow.Author.Tests.{le-ltb, lt-ltb}
 use Rattle.lists.specs.Lists.{All, count, every, upTo}
-use Rattle.lists.proofs.Tests.{T-true, true-T, and-left, and-right, and-both}
+use Rattle.lists.proofs.Tests.{T-true, and-left, and-both}
 use Rattle.lists.proofs.Alls.{all-of, all-append, all-imp, all-map, all-both, all-every, getD-all}
 use Rattle.lists.proofs.Counts.{count-le-length, count-mono}
 use Rattle.lists.proofs.Largest.{largest-le}
@@ -20,7 +20,7 @@ use Rattle.packing.specs.Load.{load, most}
 use Rattle.packing.specs.Answers.{rowFound}
 use Rattle.packing.specs.declared.RowFound.the-variants.{At, Nothing}
 use Rattle.packing.proofs.RowsAt.{all-rowsAt}
-use Rattle.crowding.specs.Tails.{rowNumber, fewLoads}
+use Rattle.crowding.specs.Tails.{rowNumber}
 use Rattle.crowding.proofs.TailSets.{GoodFrom}
 
 -- a set with a node stands together in no more rows than hold the node
@@ -87,18 +87,13 @@ module _ (r c : ℕ) (l : List ℕ) (bytes : (i : ℕ) → getD l i 0 < 256) whe
       (all-imp (λ v. v < 256) (λ v. T (ltb v 256)) (λ v lt. T-true (lt-ltb v 256 lt)) row (good .1))))
       (rowsAt r c l) (good-rows r c l bytes order)
 
-  pub first-none-of-loads : (x bound : ℕ) → T (fewLoads x bound (rowsAt r c l)) → firstCrowded x bound (rowsAt r c l) ≡ none
-  first-none-of-loads x bound t =
+  pub first-none-of-loads : (x bound : ℕ) → most 256 (rowsAt r c l) ≤ bound → firstCrowded x bound (rowsAt r c l) ≡ none
+  first-none-of-loads x bound fits =
       none-of-loads x bound (rowsAt r c l)
       (all-imp (All (λ v. v < 256)) (All (λ v. load (rowsAt r c l) v ≤ bound))
       (all-imp (λ v. v < 256) (λ v. load (rowsAt r c l) v ≤ bound) few)
       (rowsAt r c l) (all-rowsAt (λ v. v < 256) r c l (getD-all (λ v. v < 256) 0 l (λ i lt. bytes i))))
     where
-      fits : most 256 (rowsAt r c l) ≤ bound
-      fits =
-          let m = most 256 (rowsAt r c l) in
-          leb-true m bound (true-T (leb m bound) (and-right (eqb x 0) (leb m bound) t))
-
       few : (v : ℕ) → v < 256 → load (rowsAt r c l) v ≤ bound
       few v lt =
           omega (arith, fits, largest-le (map (load (rowsAt r c l)) (upTo 256)) v, getD-map-upTo (load (rowsAt r c l)) 256 v 0 lt)

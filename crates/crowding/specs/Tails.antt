@@ -7,7 +7,6 @@ use mathlib.Core.Option.{Option, none, some}
 use lib.ListN.{length}
 use lib.Dec.{leb, ltb, eqb}
 use Rattle.packing.specs.Rows.{member}
-use Rattle.packing.specs.Load.{most}
 
 -- a row's number, and its nodes above those already chosen
 pub record Tail : Type 0 where
@@ -50,10 +49,6 @@ lowestCrowded (suc w) bound tails least =
 unfoldable pub rowTails : (i : ℕ) → List (List ℕ) → List Tail
 rowTails i [] = []
 rowTails i (row ∷ rows) = record { row = i; nodes = row } ∷ rowTails (suc i) rows
-
--- sets of one node, where no node stands in more than `bound` of the rows: nothing is crowded
-abbrev pub fewLoads : (x bound : ℕ) (rows : List (List ℕ)) → Bool
-fewLoads x bound rows = eqb x 0 && leb (most 256 rows) bound
 
 -- a row's number, and 65,536 where there is none
 abbrev pub rowNumber : Option ℕ → ℕ

@@ -7,9 +7,9 @@ use mathlib.Core.Bool.{Bool, true, false}
 use mathlib.Core.List.{List, [], _∷_}
 use lib.ListN.{length, getD, take, drop, List·getD-eq-default}
 use lib.Dec.{T, ltb}
-use borrow.Author.Tests.{le-leb, le-ltb, ltb-true, ltb-false}
+use borrow.Author.Tests.{le-ltb, ltb-true, ltb-false}
 use Rattle.lists.specs.Lists.{All, every}
-use Rattle.lists.proofs.Tests.{T-true, and-both}
+use Rattle.lists.proofs.Tests.{and-both}
 use Rattle.lists.proofs.Alls.{all-imp, all-both}
 use Rattle.lists.proofs.Counts.{count-mono}
 use Rattle.lists.proofs.Finds.{firstWhere-none, any-none}
@@ -87,7 +87,7 @@ module _ (r c : ℕ) (l : List ℕ) (bytes : (i : ℕ) → getD l i 0 < 256) whe
       let m = most 256 (rowsAt r c l) in
       rw e
       (le-antisymm (loads-le (rowsAt r c l))
-      (uncrowded-iff-most 0 (rowsAt r c l) m .0 (first-none-of-loads r c l bytes 0 m (T-true (le-leb m m (le-refl m))))))
+      (uncrowded-iff-most 0 (rowsAt r c l) m .0 (first-none-of-loads r c l bytes 0 m (le-refl m))))
 
   pub searched-sets : (x n : ℕ) → c * r ≤ length l → All (λ row. T (ascending 0 row)) (rowsAt r c l)
       → n ≡ mostTails (suc x) (rowTails 0 (rowsAt r c (take (c * r - 0) (drop 0 l)))) 0 → n ≡ mostTogether x (rowsAt r c l)

@@ -117,10 +117,9 @@ returns-5 : tie.Need-returns-5
 returns-5 c =
     let load = c .before in
     let service = load .before .before .before in
-    let order = service .before .before .before in
-    (
+    let order = service .before .before .before in (
       rows-left _ _ _ _ _ (order .before .before .before .count-rows .ensures) (ends order) _ (order .check-ascending .ensures)
-      (service .before .enum-told .given .1) _ (service .check-service .ensures) (load .before .enum-told2 .given .1) (c .check-packings .ensures),
+          (service .before .enum-told .given .1) _ (service .check-service .ensures) (load .before .enum-told2 .given .1) (c .check-packings .ensures),
       λ good. load .first-load .ensures,
     )
 

@@ -150,12 +150,11 @@ returns-6 c =
     let o = l .before .before .before .before in
     let b = o .before .before .before .before in
     let good = records-good (checkRecords _ _ _ _ _ _) (r .before .before .before .check-records .ensures .0) (r .enum-told4 .given .1) in
-    let limits = order-limits _ (base-of b) (terms-of o) in
-    (
+    let limits = order-limits _ (base-of b) (terms-of o) in (
       right-figure _ (base-of b) (terms-of o) (layers-of l) (good .1)
-      (f .before .before .figure-of .ensures ∙ rw (f .before .before .before .rule-of .ensures) refl) (f .if1 .left) (good-base b .array) (good .2),
+          (f .before .before .figure-of .ensures ∙ rw (f .before .before .before .rule-of .ensures) refl) (f .if1 .left) (good-base b .array) (good .2),
       handed-on _ _ refl
-      (λ fed. r .before .before .before .check-records .ensures .1 (r .enum-told4 .given .1) fed (limits .1 .s-least)),
+          (λ fed. r .before .before .before .check-records .ensures .1 (r .enum-told4 .given .1) fed (limits .1 .s-least)),
     )
 
 pub check-loaded-spec : {M : Type 1} → statement M

@@ -30,8 +30,7 @@ first c =
     let a = c .before .before .args in
     let asked = c .before .before .pre in
     let turn = crowd-holds _ _ _ _ _ asked in
-    let held : a .layers ≤ length (a .t5) = omega (arith, asked .few, asked .r-most) in
-    (
+    let held : a .layers ≤ length (a .t5) = omega (arith, asked .few, asked .r-most) in (
       crowd-fits _ _ _ _ _ _ _ turn (omega (arith, c .if1 .left)) held .1,
       crowd-ordered _ _ _ _ _ _ _ turn (omega (arith, c .if1 .left)) held,
     )

@@ -112,10 +112,9 @@ loop-less c = search needs
 
 loop-again : tie.Need-loop-again Inv-loop μ-loop
 loop-again c =
-    let l = c .before .before .before .before .before in
-    (
+    let l = c .before .before .before .before .before in (
       crowd-again _ _ _ _ _ _ _ (l .before .loop .inv .0) (l .loop-test .taken) (held l) _ (part l) _
-      (c .before .before .layer-crowded .ensures) (c .enum-told .given .1),
+          (c .before .before .layer-crowded .ensures) (c .enum-told .given .1),
       λ first. absurd (omega arith),
     )
 
