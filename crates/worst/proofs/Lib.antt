@@ -3,6 +3,7 @@ pub mod Sets
 pub mod Exact
 pub mod Among
 pub mod Hits
+pub mod Kept
 pub mod Turns
 pub mod Steps
 pub mod Going

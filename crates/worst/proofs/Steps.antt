@@ -16,7 +16,7 @@ use Rattle.worst.specs.Records.{begin, size, usableBy, Index, HitsOf, fe
 use Rattle.worst.specs.Searches.{Named, Raising, Raised, Lowering, Searching, LastChosen, NextChosen, Searched}
 use Rattle.worst.specs.declared.Search.{Search}
 use Rattle.worst.specs.declared.Entries.{Entries}
-use Rattle.worst.proofs.Through.{at, length-nodesFrom, through-zero, through-none, through-step}
+use Rattle.worst.proofs.Through.{at, length-nodesFrom, through-none, through-step}
 use Rattle.worst.proofs.Hits.{length-raised, onSet-snoc, few-hits, hits-raised, hits-lowered, usable-lost, entries-inside}
 
 -- the search after the next node is left, and after it is chosen
@@ -63,17 +63,6 @@ module _ {search : Search} {index hits nodes out : List ℕ} (pre : Searching se
   -- the entries of the next node
   pub next-ordered : (257 ≤ length index) × (getD index (search .next .0) 0 ≤ getD index (search .next .0 + 1) 0)
   next-ordered = (pre .is-index .all-nodes, pre .is-index .ordered v node)
-
-  -- no set leaves fewer than 0
-  pub searched-zero : search .least ≡ 0 → Searched search index hits nodes out hits nodes out 0
-  searched-zero e =
-      record {
-        found = through-zero value chosen (k - search .chosen) (nodesFrom v (search .n - v)) (at (search .least) (take k out)) e
-            ∙ ap (λ least. at least (take k out)) e;
-        rest = refl;
-        counted = pre .counted;
-        same-chosen = refl;
-      }
 
   -- the node stands after those chosen
   take-chosen : take (search .chosen + 1) (set nodes (search .chosen) (search .next .0)) ≡ take (search .chosen) nodes ++ (search .next .0 ∷ [])

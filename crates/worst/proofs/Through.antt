@@ -1,4 +1,4 @@
--- Going through the sets: what a stop at 0, a shortage of nodes and the set found before change, and that no step raises the
+-- Going through the sets: what a shortage of nodes and the set found before change, and that no step raises the
 -- fewest. Assumes nothing.
 use Prim.Native.Nat.{ℕ, zero, suc, _+_, _-_, _≤_, _<_}
 use native.Mathlib.Omega.{arith}
@@ -10,7 +10,7 @@ use mathlib.Core.Bool.{Bool, true, false}
 use mathlib.Core.List.{List, [], _∷_, _++_, append-assoc, append-nil}
 use lib.ListN.{length}
 use lib.Dec.{ltb}
-use borrow.Author.Tests.{ltb-true, ltb-false, le-ltb}
+use borrow.Author.Tests.{ltb-true, ltb-false}
 use Rattle.lists.proofs.Tests.{cond-elim}
 use Rattle.worst.specs.Worst.{Worst, lower, through, nodesFrom}
 
@@ -46,15 +46,6 @@ in-turn f g one other (inl e) (inl r) = inl (ap g (e .0) ∙ r .0, ap g (e .1) �
 in-turn f g one other (inl e) (inr r) = inr (ap g (e .0) ∙ r ∙ sym (ap g (e .1)))
 
 module _ (value : List ℕ → ℕ) where
-  -- no set has fewer than 0
-  pub through-zero : (chosen : List ℕ) (j : ℕ) (nodes : List ℕ) (found : Worst) → found .fewest ≡ 0
-      → through value chosen j nodes found ≡ found
-  unfolding through
-  through-zero chosen zero nodes found e = rw (e, le-ltb (value chosen) 0 (omega arith))
-  through-zero chosen (suc j) [] found e = refl
-  through-zero chosen (suc j) (v ∷ nodes) found e =
-      rw (through-zero (chosen ++ (v ∷ [])) j nodes found e) (through-zero chosen (suc j) nodes found e)
-
   -- fewer nodes than are to come make no set
   pub through-none : (chosen : List ℕ) (j : ℕ) (nodes : List ℕ) (found : Worst) → length nodes < j
       → through value chosen j nodes found ≡ found

@@ -5,7 +5,7 @@ use mathlib.Core.List.{List, [], _∷_, _++_}
 use lib.ListN.{length, getD, take, drop}
 use lib.Dec.{eqb}
 use Rattle.worst.specs.Worst.{lower, through, nodesFrom}
-use Rattle.worst.specs.Records.{among, onSet, usableBy, Index, HitsOf, few, raisedTo}
+use Rattle.worst.specs.Records.{among, size, onSet, usableBy, Index, HitsOf, few, raisedTo}
 use Rattle.worst.specs.declared.Entries.{Entries}
 use Rattle.worst.specs.declared.Search.{Search}
 
@@ -27,6 +27,11 @@ pub record Raised (s : ℕ) (index hits : List ℕ) (entries : Entries) (hits′
 pub record Lowering (index hits : List ℕ) (entries : Entries) : Type 0 where
   pub named : Named index hits entries
   pub held : (i : ℕ) → among (eqb i) index (entries .from) (entries .count) ≤ getD hits i 0
+
+-- no node has more than `most` records
+pub record Light (index : List ℕ) (most : ℕ) : Type 0 where
+  pub each : (v : ℕ) → v < 256 → size index v ≤ most
+  pub small : most ≤ 65_535
 
 -- the next node is below n, and enough nodes are left; the first `chosen` bytes of the set are chosen, and the hits are theirs
 pub record Searching (search : Search) (index hits set out : List ℕ) : Type 0 where

@@ -20,6 +20,7 @@ pub(crate) fn fewest_usable(rows: &[u8], shape: Shape, order: Order, out: &mut [
     let b = order.b;
     let mut index = [0u16; 20737];
     worst_records::list_records(rows, r, b, &mut index);
+    let most = worst_records::most_records(&index);
     let mut hits = [0u8; 4096];
     let mut set = [0u8; 256];
     let least = b + 1;
@@ -32,5 +33,5 @@ pub(crate) fn fewest_usable(rows: &[u8], shape: Shape, order: Order, out: &mut [
         usable: b,
         least,
     };
-    worst_search::search(search, &index, &mut hits[0..b], &mut set, out)
+    worst_search::search(search, most, &index, &mut hits[0..b], &mut set, out)
 }

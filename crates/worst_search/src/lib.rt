@@ -1,4 +1,5 @@
 // Going through the sets of k nodes by choosing or leaving each node, with each record's replicas on failed nodes at hand.
+use minmax::smaller;
 use packing::Node;
 use worst::Search;
 use worst_hits::entries_of;
@@ -8,11 +9,19 @@ use worst_last::last_node;
 use worst_rest::choose_rest;
 use worst_two::last_two;
 ghost use Prim.Native.Nat.{_+_, _<_};
-ghost use Rattle.worst.specs.Searches.{NextChosen, Searched, Searching};
+ghost use Rattle.worst.specs.Searches.{Light, NextChosen, Searched, Searching};
 
 // Goes through the sets that have the next node, and as many more after it as are to come.
-fn choose(search: Search, index: &[u16], hits: &mut [u8], set: &mut [u8], out: &mut [u8]) -> usize
+fn choose(
+    search: Search,
+    most: usize,
+    index: &[u16],
+    hits: &mut [u8],
+    set: &mut [u8],
+    out: &mut [u8],
+) -> usize
     requires { ⌜ Searching search (now index) (now hits) (now set) (now out) ⌝ }
+    requires { ⌜ Light (now index) most ⌝ }
     requires { ⌜ search .chosen + 1 < search .k ⌝ }
     ensures { λ least.
         ⌜ NextChosen search (now (index .entry)) (now (hits .entry)) (now (set .entry)) (now (out .entry)) (now (hits .exit))
@@ -32,23 +41,25 @@ fn choose(search: Search, index: &[u16], hits: &mut [u8], set: &mut [u8], out: &
         usable,
         ..search
     };
-    let least = crate::search(others, index, hits, set, out);
+    let least = crate::search(others, most, index, hits, set, out);
     lower(index, entries, hits);
     least
 }
 
 // Goes through the sets of k nodes that have those chosen and others from the next node on: first the sets with the next node,
 // then those without it, so that they come in dictionary order. Answers the fewest usable records so far, whose first set then
-// stands at the start of `out`. No set leaves fewer than none; where just as many nodes are left as are to come, all are chosen,
-// and where one or two are to come, loops do.
+// stands at the start of `out`. Each node that is to come loses at most `most` records: where that leaves no fewer, none is chosen. Where
+// just as many nodes are left as are to come, all are chosen, and where one or two are to come, loops do.
 pub fn search(
     search: Search,
+    most: usize,
     index: &[u16],
     hits: &mut [u8],
     set: &mut [u8],
     out: &mut [u8],
 ) -> usize
     requires { ⌜ Searching search (now index) (now hits) (now set) (now out) ⌝ }
+    requires { ⌜ Light (now index) most ⌝ }
     ensures { λ least.
         ⌜ Searched search (now (index .entry)) (now (hits .entry)) (now (set .entry)) (now (out .entry)) (now (hits .exit))
         (now (set .exit)) (now (out .exit)) least ⌝ }
@@ -57,11 +68,13 @@ pub fn search(
     let k = search.k;
     let node = search.next;
     let chosen = search.chosen;
+    let usable = search.usable;
     let least = search.least;
     let left = n - node.0 as usize;
     let more = k - chosen;
-    if least == 0 {
-        return 0;
+    let loss = smaller(more * most, usable);
+    if least <= usable - loss {
+        return least;
     }
     if left == more {
         return choose_rest(search, index, hits, set, out);
@@ -72,12 +85,12 @@ pub fn search(
     if more == 2 {
         return last_two(search, index, hits, set, out);
     }
-    let least = choose(search, index, hits, set, out);
+    let least = choose(search, most, index, hits, set, out);
     let next = Node(node.0 + 1);
     let others = Search {
         next,
         least,
         ..search
     };
-    crate::search(others, index, hits, set, out)
+    crate::search(others, most, index, hits, set, out)
 }

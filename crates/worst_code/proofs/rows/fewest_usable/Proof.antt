@@ -20,6 +20,14 @@ list-records-requires c κs =
       omega (arith, length-replicate {A = ℕ} 20_737 0, p .whole, bytes-most (s .args .order .b) (s .args .shape .r) (p .b-most) (p .r-most)),
     )
 
+slice-aggregate-most-records : tie.Need-slice-aggregate-most-records
+slice-aggregate-most-records c = search needs
+
+most-records-requires : tie.Need-most-records-requires
+most-records-requires c κs =
+    let listed = c .before .before .list-records .ensures in
+    (listed .all-nodes, listed .ordered)
+
 add-least : tie.Need-add-least
 add-least c = search needs
 
@@ -40,10 +48,14 @@ slice-aggregate-search-2 c = search needs
 
 search-requires : tie.Need-search-requires
 search-requires c κs =
-    let s = c .before .before .before .before .before .before .before .before .before in
-    let p = s .pre .0 in
-    to-start p (c .before .before .before .before .before .list-records .ensures) (zeros-part (s .args .order .b) 4_096 (p .b-most))
-    (omega (arith, length-replicate {A = ℕ} 256 0, p .k-most, p .n-most)) (s .pre .1)
+    let counted = c .before .before .before .before in
+    let listed = counted .before .before .before in
+    let s = listed .before .before .before .before in
+    let p = s .pre .0 in (
+      to-start p (listed .list-records .ensures) (zeros-part (s .args .order .b) 4_096 (p .b-most))
+          (omega (arith, length-replicate {A = ℕ} 256 0, p .k-most, p .n-most)) (s .pre .1),
+      counted .most-records .ensures,
+    )
 
 same-length : tie.Need-same-length
 same-length c = search needs
@@ -51,11 +63,12 @@ same-length c = search needs
 returns : tie.Need-returns
 returns c =
     let done = c .before .before .before .before in
-    let s = c .before .before .before .before .before .before .before .before .before .before .before .before .before .before in
+    let listed = done .before .before .before .before .before .before .before .before in
+    let s = listed .before .before .before .before in
     let p = s .pre .0 in
-    searched-rows p (c .before .before .before .before .before .before .before .before .before .before .list-records .ensures)
+    searched-rows p (listed .list-records .ensures)
     (ap length (zeros-part (s .args .order .b) 4_096 (p .b-most)) ∙ length-replicate {A = ℕ} (s .args .order .b) 0)
-    (done .search .kept .1 .1 .1 .1 .0) (s .pre .1) (done .search .ensures)
+    (done .search .kept .1 .1 .1 .1 .1 .0) (s .pre .1) (done .search .ensures)
 
 pub fewest-usable-spec : {M : Type 1} → statement M
 fewest-usable-spec =
@@ -63,6 +76,8 @@ fewest-usable-spec =
     (tie.spec
     slice-aggregate-list-records
     list-records-requires
+    slice-aggregate-most-records
+    most-records-requires
     add-least
     slice-aggregate-search
     sub-search

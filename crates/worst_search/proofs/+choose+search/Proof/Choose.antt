@@ -34,11 +34,11 @@ module _ (t : ℕ) where
   pub slice-write-set : At t lts.Need-slice-write-set
   slice-write-set c = omega (arith, start (c .before .before .before .before) .pre .1 .0 .more, start (c .before .before .before .before) .pre .1 .0 .set-room)
 
-  pub add-t18 : At t lts.Need-add-t18
-  add-t18 c = omega (arith, start (c .before .before .before .before .before) .pre .1 .0 .below, start (c .before .before .before .before .before) .pre .1 .0 .n-most)
-
   pub add-t19 : At t lts.Need-add-t19
-  add-t19 c = omega (arith, start (c .before .before .before .before .before) .pre .1 .0 .more, start (c .before .before .before .before .before) .pre .1 .0 .k-most)
+  add-t19 c = omega (arith, start (c .before .before .before .before .before) .pre .1 .0 .below, start (c .before .before .before .before .before) .pre .1 .0 .n-most)
+
+  pub add-t20 : At t lts.Need-add-t20
+  add-t20 c = omega (arith, start (c .before .before .before .before .before) .pre .1 .0 .more, start (c .before .before .before .before .before) .pre .1 .0 .k-most)
 
   pub search-requires : At t lts.Need-search-requires
   search-requires c κs =
@@ -46,7 +46,7 @@ module _ (t : ℕ) where
       let entries = up .before .before in
       let s = start entries in (
         omega (arith, s .pre .0, s .pre .1 .0 .below),
-        to-search (s .pre .1 .0) (entries .entries-of .ensures) (up .raise .ensures) (s .pre .1 .1),
+        (to-search (s .pre .1 .0) (entries .entries-of .ensures) (up .raise .ensures) (s .pre .1 .1 .1), s .pre .1 .1 .0),
       )
 
   pub lower-requires : At t lts.Need-lower-requires
@@ -54,7 +54,7 @@ module _ (t : ℕ) where
       let done = c .before .before .before .before .before .before .before in
       let up = raised done in
       let entries = up .before .before in
-      to-lower (start entries .pre .1 .0) (entries .entries-of .ensures) (up .raise .ensures) (done .search .ensures) (done .search .kept .1 .1 .0)
+      to-lower (start entries .pre .1 .0) (entries .entries-of .ensures) (up .raise .ensures) (done .search .ensures) (done .search .kept .1 .1 .1 .0)
 
   pub same-length : At t lts.Need-same-length
   same-length c = search needs
@@ -63,7 +63,7 @@ module _ (t : ℕ) where
   same-length-2 c =
       let done = c .before .before .before .before .before .before .before .before .before .before in
       let a = start (raised done .before .before) .args in
-      done .search .kept .1 .1 .1 .0 ∙ length-set (a .set .now) (a .search .chosen) (a .search .next .0)
+      done .search .kept .1 .1 .1 .1 .0 ∙ length-set (a .set .now) (a .search .chosen) (a .search .next .0)
 
   pub same-length-3 : At t lts.Need-same-length-3
   same-length-3 c = search needs
@@ -73,5 +73,5 @@ module _ (t : ℕ) where
       let done = c .before .before .before .before .before .before .before .before .before .before in
       let up = raised done in
       let entries = up .before .before in
-      chosen-more (start entries .pre .1 .0) (entries .entries-of .ensures) (up .raise .ensures) (done .search .ensures) (done .search .kept .1 .1 .0)
+      chosen-more (start entries .pre .1 .0) (entries .entries-of .ensures) (up .raise .ensures) (done .search .ensures) (done .search .kept .1 .1 .1 .0)
       (c .before .before .lower .ensures)

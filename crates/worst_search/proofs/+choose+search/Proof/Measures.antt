@@ -8,6 +8,7 @@ use Rattle.worst_search.proofs.search.Reads as search′
 use Rattle.worst_search.proofs.search.Kinds as search-kinds
 use Rattle.worst_search.proofs.+choose+search.Lts-choose as choose-lts
 use Rattle.worst_search.proofs.+choose+search.Lts-search as search-lts
+use Rattle.minmax.proofs.smaller.Reads as smaller-reads
 use Rattle.worst_hits.proofs.entries_of.Reads as entries-of-reads
 use Rattle.worst_hits.proofs.lower.Reads as lower-reads
 use Rattle.worst_hits.proofs.raise.Reads as raise-reads
@@ -48,6 +49,8 @@ choose-calls t = (
 
 abbrev pub search-calls : ℕ → search-lts.Claims
 search-calls t = (
+  smaller-reads.Asked,
+  smaller-reads.Learnt,
   choose-rest-reads.Asked,
   choose-rest-reads.Learnt,
   last-node-reads.Asked,

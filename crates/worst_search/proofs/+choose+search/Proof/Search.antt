@@ -1,7 +1,9 @@
 -- What `worst_search::search` needs, where `choose` and `search` hold for smaller measures. Assumes nothing.
-use Prim.Native.Nat.{ℕ}
+use Prim.Native.Nat.{ℕ, _-_, _≤_}
+use native.Mathlib.Nat.{mul-le-mul}
 use native.Mathlib.Omega.{arith}
-use Rattle.worst.proofs.Steps.{searched-zero, to-leave, left-searched}
+use Rattle.worst.proofs.Steps.{to-leave, left-searched}
+use Rattle.worst.proofs.Kept.{searched-kept}
 use borrow.Author.Needs.{needs}
 use borrow.Fn.Kinds.{In, Out}
 use Rattle.worst_search.proofs.search.Reads as search′
@@ -16,7 +18,7 @@ At t place = place (search-calls t) (search-at t) search′.Post
 module _ (t : ℕ) where
   -- what the call was given, and where more than two nodes are to come
   abbrev start : At t lts.Else1 → At t lts.Start
-  start c = c .before .before .before .before .before .before .before
+  start c = c .before .before .before .before .before .before .before .before
 
   abbrev many : At t lts.After-choose → At t lts.Else4
   many c = c .before .before .before .before
@@ -30,11 +32,27 @@ module _ (t : ℕ) where
   pub sub-more : At t lts.Need-sub-more
   sub-more c = search needs
 
+  pub mul-smaller : At t lts.Need-mul-smaller
+  mul-smaller c =
+      let a = c .before .before .before .before .before .before .args in
+      let p = c .before .before .before .before .before .before .pre .1 in
+      let few : a .search .k - a .search .chosen ≤ 255 = omega (arith, p .0 .k-most) in
+      omega (arith, mul-le-mul few (p .1 .small))
+
+  pub smaller-requires : At t lts.Need-smaller-requires
+  smaller-requires c κs = search needs
+
+  pub sub-if1 : At t lts.Need-sub-if1
+  sub-if1 c = omega (arith, c .smaller .ensures)
+
+  -- the nodes that are to come lose too little
   pub returns : At t lts.Need-returns
-  returns c = searched-zero (c .before .before .before .before .before .before .before .pre .1) (c .if1 .taken)
+  returns c =
+      let p = c .before .before .before .before .before .before .before .before .pre .1 in
+      searched-kept (p .0) (p .1) (omega (arith, c .if1 .taken, c .before .smaller .ensures))
 
   pub choose-rest-requires : At t lts.Need-choose-rest-requires
-  choose-rest-requires c κs = (start (c .before .before .before .before) .pre .1, c .before .before .before .if2 .taken)
+  choose-rest-requires c κs = (start (c .before .before .before .before) .pre .1 .0, c .before .before .before .if2 .taken)
 
   pub same-length : At t lts.Need-same-length
   same-length c = search needs
@@ -51,7 +69,7 @@ module _ (t : ℕ) where
   pub last-node-requires : At t lts.Need-last-node-requires
   last-node-requires c κs =
       let s = start (c .before .before .before .before .before) in
-      (s .pre .1, omega (arith, c .before .before .before .if3 .taken, s .pre .1 .more))
+      (s .pre .1 .0, omega (arith, c .before .before .before .if3 .taken, s .pre .1 .0 .more))
 
   pub same-length-4 : At t lts.Need-same-length-4
   same-length-4 c = search needs
@@ -68,7 +86,7 @@ module _ (t : ℕ) where
   pub last-two-requires : At t lts.Need-last-two-requires
   last-two-requires c κs =
       let s = start (c .before .before .before .before .before .before) in
-      (s .pre .1, omega (arith, c .before .before .before .if4 .taken, s .pre .1 .more))
+      (s .pre .1 .0, omega (arith, c .before .before .before .if4 .taken, s .pre .1 .0 .more))
 
   pub same-length-7 : At t lts.Need-same-length-7
   same-length-7 c = search needs
@@ -86,12 +104,12 @@ module _ (t : ℕ) where
   choose-requires c κs =
       let s = start (c .before .before .before .before .before .before) in (
         omega (arith, s .pre .0),
-        (s .pre .1, omega (arith, s .pre .1 .more, c .before .before .before .before .if3 .left, c .before .before .before .if4 .left)),
+        (s .pre .1 .0, (s .pre .1 .1, omega (arith, s .pre .1 .0 .more, c .before .before .before .before .if3 .left, c .before .before .before .if4 .left))),
       )
 
-  pub add-t42 : At t lts.Need-add-t42
-  add-t42 c =
-      let p = start (many (c .before .before .before .before .before .before .before) .before .before .before) .pre .1 in
+  pub add-t45 : At t lts.Need-add-t45
+  add-t45 c =
+      let p = start (many (c .before .before .before .before .before .before .before) .before .before .before) .pre .1 .0 in
       omega (arith, p .below, p .n-most)
 
   pub search-requires : At t lts.Need-search-requires
@@ -99,8 +117,8 @@ module _ (t : ℕ) where
       let done = c .before .before .before .before .before .before .before .before .before .before in
       let s = start (many done .before .before .before) in
       let kept = done .choose .kept in (
-        omega (arith, s .pre .0, s .pre .1 .below),
-        to-leave (s .pre .1) (done .choose .ensures) (kept .1 .1 .0) (kept .1 .1 .1 .0) (kept .1 .1 .1 .1 .0) (many done .before .before .if2 .left),
+        omega (arith, s .pre .0, s .pre .1 .0 .below),
+        (to-leave (s .pre .1 .0) (done .choose .ensures) (kept .1 .1 .1 .0) (kept .1 .1 .1 .1 .0) (kept .1 .1 .1 .1 .1 .0) (many done .before .before .if2 .left), s .pre .1 .1),
       )
 
   pub same-length-10 : At t lts.Need-same-length-10
@@ -115,4 +133,4 @@ module _ (t : ℕ) where
   pub returns-5 : At t lts.Need-returns-5
   returns-5 c =
       let done = c .before .before .before .before .before .before .before .before .before .before .before .before .before .before .before .before .before in
-      left-searched (start (many done .before .before .before) .pre .1) (done .choose .ensures) (done .choose .kept .1 .1 .0) (c .before .before .before .before .before .before .search .ensures)
+      left-searched (start (many done .before .before .before) .pre .1 .0) (done .choose .ensures) (done .choose .kept .1 .1 .1 .0) (c .before .before .before .before .before .before .search .ensures)
