@@ -12,7 +12,9 @@ use borrow.Author.Tests.{lt-ltb, le-ltb, eq-eqb, ne-eqb, eqb-true, eqb-false}
 use Rattle.lists.specs.Lists.{tally, count}
 use Rattle.lists.proofs.Arith.{le-or-lt}
 use Rattle.lists.proofs.CountUpTo.{count-upTo-congr, count-getD}
-use Rattle.worst.specs.Records.{among, begin, size, onNode, onSet, usableBy, Index, HitsOf, few, raisedTo, loweredTo, lostTo}
+use Rattle.worst.specs.Records.{among, begin, size, entriesOf, onNode, onSet, usableBy, Index, HitsOf, few, raisedTo, loweredTo, lostTo}
+use Rattle.worst.specs.Searches.{Named}
+use Rattle.worst.specs.declared.Entries.{Entries}
 use Rattle.worst.proofs.Among.{among-mono, among-some}
 
 -- one element changed
@@ -171,6 +173,11 @@ module _ {index : List ℕ} {b : ℕ} (is : Index index b) (v : ℕ) (node : v <
             among-some (eqb (getD index (begin index v + q) 0)) index (begin index v) q (size index v) lt
                 (eq-eqb (getD index (begin index v + q) 0) (getD index (begin index v + q) 0) refl),
           )
+
+pub node-entries : {index hits : List ℕ} → Index index (length hits) → (v : ℕ) → v < 256 → {entries : Entries} → entries ≡ entriesOf index v
+    → Named index hits entries
+node-entries is v node e =
+    rw e (record { inside = omega (arith, is .ordered v node, is .inside v node); records = entries-inside is v node })
 
 module _ {index : List ℕ} (hits nodes : List ℕ) (is : Index index (length hits)) (v : ℕ) (node : v < 256) where
   -- choosing the node

@@ -9,11 +9,12 @@ use Rattle.lists.specs.Lists.{All, upTo}
 use Rattle.lists.proofs.UpTo.{length-map-upTo, getD-map-upTo}
 use Rattle.worst.specs.Worst.{Worst, through, nodesFrom}
 use Rattle.worst.specs.Records.{begin, size, onSet, usableBy, Index, HitsOf}
-use Rattle.worst.specs.Searches.{Light, Searching, Searched}
+use Rattle.worst.specs.Searches.{Light, NoLower, Searching, NextChosen}
 use Rattle.worst.specs.declared.Search.{Search}
 use Rattle.worst.proofs.Hits.{usable-lost}
 use Rattle.worst.proofs.Turns.{lostTo-le}
 use Rattle.worst.proofs.Through.{at}
+use Rattle.worst.proofs.Steps.{lost-usable}
 
 -- whichever nodes failed before
 usable-left : {index : List ℕ} {b : ℕ} → Index index b → (v : ℕ) → v < 256 → (s : ℕ) (nodes : List ℕ)
@@ -41,24 +42,24 @@ through-kept value most chosen (suc j) (v ∷ nodes) found h le =
     rw (through-kept value most (chosen ++ (v ∷ [])) j nodes found (h .1) (omega (arith, h .0 chosen)))
     (through-kept value most chosen (suc j) nodes found (h .1) le)
 
--- the search leaves the least and the set as they are
-pub searched-kept : {search : Search} {index hits nodes out : List ℕ} {most : ℕ} → Searching search index hits nodes out → Light index most
-    → search .least ≤ search .usable - (search .k - search .chosen) * most
-    → Searched search index hits nodes out hits nodes out (search .least)
-searched-kept {search} {index} {hits} {nodes} {out} {most} pre light le =
+-- no set that has the next node leaves fewer
+pub next-kept : {search : Search} {index hits nodes out : List ℕ} {most : ℕ} → Searching search index hits nodes out → Light index most
+    → NoLower search most index hits → NextChosen search index hits nodes out hits nodes out (search .least)
+next-kept {search} {index} {hits} {nodes} {out} {most} pre light le =
+    let v = search .next .0 in
     record {
       found =
-          through-kept (usableBy index (search .s) (length hits)) most (take (search .chosen) nodes) (search .k - search .chosen)
-          (nodesFrom (search .next .0) (search .n - search .next .0)) (at (search .least) (take (search .k) out))
-          (all-nodesFrom _ (search .next .0) (search .n - search .next .0) each)
-          (omega (arith, pre .usable-is));
+          through-kept (usableBy index (search .s) (length hits)) most (take (search .chosen) nodes ++ (v ∷ [])) (search .k - (search .chosen + 1))
+          (nodesFrom (v + 1) (search .n - (v + 1))) (at (search .least) (take (search .k) out))
+          (all-nodesFrom _ (v + 1) (search .n - (v + 1)) each)
+          (omega (arith, lost-usable pre));
       rest = refl;
       counted = pre .counted;
       same-chosen = refl;
     }
   where
-    each : (v : ℕ) → v < search .next .0 + (search .n - search .next .0)
-        → (set : List ℕ) → usableBy index (search .s) (length hits) set ≤ usableBy index (search .s) (length hits) (set ++ (v ∷ [])) + most
-    each v lt set =
-        let node : v < 256 = omega (arith, pre .below, pre .n-most) in
-        omega (arith, usable-left (pre .is-index) v node (search .s) set, light .each v node)
+    each : (w : ℕ) → w < search .next .0 + 1 + (search .n - (search .next .0 + 1))
+        → (set : List ℕ) → usableBy index (search .s) (length hits) set ≤ usableBy index (search .s) (length hits) (set ++ (w ∷ [])) + most
+    each w lt set =
+        let node : w < 256 = omega (arith, pre .below, pre .n-most) in
+        omega (arith, usable-left (pre .is-index) w node (search .s) set, light .each w node)

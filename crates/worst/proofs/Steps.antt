@@ -17,7 +17,7 @@ use Rattle.worst.specs.Searches.{Named, Raising, Raised, Lowering, Searc
 use Rattle.worst.specs.declared.Search.{Search}
 use Rattle.worst.specs.declared.Entries.{Entries}
 use Rattle.worst.proofs.Through.{at, length-nodesFrom, through-none, through-step}
-use Rattle.worst.proofs.Hits.{length-raised, onSet-snoc, few-hits, hits-raised, hits-lowered, usable-lost, entries-inside}
+use Rattle.worst.proofs.Hits.{length-raised, onSet-snoc, few-hits, hits-raised, hits-lowered, usable-lost, node-entries}
 
 -- the search after the next node is left, and after it is chosen
 abbrev pub left : (search : Search) (least : ℕ) → Search
@@ -69,7 +69,7 @@ module _ {search : Search} {index hits nodes out : List ℕ} (pre : Searching se
   take-chosen = rw (add-one (search .chosen)) (take-suc-set nodes (search .chosen) v (omega (arith, pre .more, pre .set-room)))
 
   -- what the last node of a set loses
-  lost-usable : usableBy index (search .s) (length hits) (take (search .chosen) nodes ++ (search .next .0 ∷ [])) + lostTo (search .s) index hits (begin index (search .next .0)) (size index (search .next .0))
+  pub lost-usable : usableBy index (search .s) (length hits) (take (search .chosen) nodes ++ (search .next .0 ∷ [])) + lostTo (search .s) index hits (begin index (search .next .0)) (size index (search .next .0))
       ≡ search .usable
   lost-usable = usable-lost hits chosen (pre .is-index) v node (search .s) (pre .counted) ∙ sym (pre .usable-is)
 
@@ -117,11 +117,7 @@ module _ {search : Search} {index hits nodes out : List ℕ} (pre : Searching se
 
   -- choosing it: what is asked of the hits, and of the search for the other nodes
   entries-named : (hits″ : List ℕ) → length hits″ ≡ length hits → Named index hits″ (entriesOf index (search .next .0))
-  entries-named hits″ same =
-      record {
-        inside = omega (arith, pre .is-index .ordered v node, pre .is-index .inside v node);
-        records = rw same (entries-inside (pre .is-index) v node);
-      }
+  entries-named hits″ same = node-entries (rw same (pre .is-index)) v node refl
 
   pub to-lose : {entries : Entries} → entries ≡ entriesOf index (search .next .0) → Named index hits entries
   to-lose e = rw e (entries-named hits refl)

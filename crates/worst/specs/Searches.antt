@@ -1,11 +1,11 @@
 -- What a search asks and gives: the lists without a mark are those before, those with one those after. Assumes nothing.
-use Prim.Native.Nat.{ℕ, _+_, _-_, _≤_, _<_}
+use Prim.Native.Nat.{ℕ, _+_, _*_, _-_, _≤_, _<_}
 use mathlib.Core.Path.{_≡_}
 use mathlib.Core.List.{List, [], _∷_, _++_}
 use lib.ListN.{length, getD, take, drop}
 use lib.Dec.{eqb}
 use Rattle.worst.specs.Worst.{lower, through, nodesFrom}
-use Rattle.worst.specs.Records.{among, size, onSet, usableBy, Index, HitsOf, few, raisedTo}
+use Rattle.worst.specs.Records.{among, begin, size, onSet, usableBy, Index, HitsOf, few, raisedTo, lostTo}
 use Rattle.worst.specs.declared.Entries.{Entries}
 use Rattle.worst.specs.declared.Search.{Search}
 
@@ -55,6 +55,13 @@ pub record LastChosen (search : Search) (index hits set out set′ out′ : List
       ≡ record { fewest = least; set = take (search .k) out′ }
   pub rest : drop (search .k) out′ ≡ drop (search .k) out
   pub same-chosen : take (search .chosen) set′ ≡ take (search .chosen) set
+
+-- no set that has the next node leaves fewer than the least so far: what the node and those after it lose leaves enough
+abbrev pub NoLower : (search : Search) (most : ℕ) (index hits : List ℕ) → Type 0
+NoLower search most index hits =
+    search .least
+    ≤ search .usable
+    - (lostTo (search .s) index hits (begin index (search .next .0)) (size index (search .next .0)) + (search .k - (search .chosen + 1)) * most)
 
 -- the least so far and the set at the output's start are those after all sets that have the next node; the hits are as before
 pub record NextChosen (search : Search) (index hits set out hits′ set′ out′ : List ℕ) (least : ℕ) : Type 0 where

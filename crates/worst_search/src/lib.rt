@@ -3,15 +3,45 @@ use minmax::smaller;
 use packing::Node;
 use worst::Search;
 use worst_hits::entries_of;
+use worst_hits::lose;
 use worst_hits::lower;
 use worst_hits::raise;
 use worst_last::last_node;
 use worst_rest::choose_rest;
 use worst_two::last_two;
-ghost use Prim.Native.Nat.{_+_, _<_};
-ghost use Rattle.worst.specs.Searches.{Light, NextChosen, Searched, Searching};
+ghost use mathlib.Core.Path.{_≡_};
+ghost use Prim.Native.Nat.{_+_, _-_, _≤_, _<_};
+ghost use mathlib.Core.Bool.{true};
+ghost use lib.Dec.{leb};
+ghost use lib.ListN.{length};
+ghost use Rattle.worst.specs.Records.{Index};
+ghost use Rattle.worst.specs.Searches.{Light, NextChosen, NoLower, Searched, Searching};
 
-// Goes through the sets that have the next node, and as many more after it as are to come.
+// Whether `usable` records without `loss` of them are no fewer than `least`.
+fn leaves(usable: usize, loss: usize, least: usize) -> bool
+    ensures { λ enough. ⌜ enough ≡ leb least (usable - loss) ⌝ }
+{
+    least <= usable - smaller(loss, usable)
+}
+
+// Whether no set that has the next node can leave fewer than the least so far: each node after it loses at most `most` records. What the
+// node itself loses is counted only where the others leave enough.
+fn keeps(search: Search, most: usize, index: &[u16], hits: &[u8]) -> bool
+    requires { ⌜ Index (now index) (length (now hits)) × Light (now index) most ⌝ }
+    requires { ⌜ (search .next .0 < 255) × (search .chosen < search .k) × (search .k ≤ 255) ⌝ }
+    ensures { λ kept. ⌜ (kept ≡ true → NoLower search most (now (index .entry)) (now (hits .entry))) ⌝ }
+{
+    let usable = search.usable;
+    let least = search.least;
+    let loss = (search.k - search.chosen - 1) * most;
+    if leaves(usable, loss, least) {
+        let entries = entries_of(index, search.next);
+        return leaves(usable, lose(search.s, index, entries, hits) + loss, least);
+    }
+    false
+}
+
+// Goes through the sets that have the next node, and as many more after it as are to come, if one of them can leave fewer.
 fn choose(
     search: Search,
     most: usize,
@@ -27,6 +57,9 @@ fn choose(
         ⌜ NextChosen search (now (index .entry)) (now (hits .entry)) (now (set .entry)) (now (out .entry)) (now (hits .exit))
         (now (set .exit)) (now (out .exit)) least ⌝ }
 {
+    if keeps(search, most, index, hits) {
+        return search.least;
+    }
     let s = search.s;
     let node = search.next;
     let place = search.chosen;
@@ -48,8 +81,8 @@ fn choose(
 
 // Goes through the sets of k nodes that have those chosen and others from the next node on: first the sets with the next node,
 // then those without it, so that they come in dictionary order. Answers the fewest usable records so far, whose first set then
-// stands at the start of `out`. Each node that is to come loses at most `most` records: where that leaves no fewer, none is chosen. Where
-// just as many nodes are left as are to come, all are chosen, and where one or two are to come, loops do.
+// stands at the start of `out`. Where just as many nodes are left as are to come, all are chosen, and where one or two are to come, loops
+// do.
 pub fn search(
     search: Search,
     most: usize,
@@ -68,15 +101,12 @@ pub fn search(
     let k = search.k;
     let node = search.next;
     let chosen = search.chosen;
-    let usable = search.usable;
-    let least = search.least;
     let left = n - node.0 as usize;
     let more = k - chosen;
-    let loss = smaller(more * most, usable);
-    if least <= usable - loss {
-        return least;
-    }
     if left == more {
+        if keeps(search, most, index, hits) {
+            return search.least;
+        }
         return choose_rest(search, index, hits, set, out);
     }
     if more == 1 {

@@ -8,7 +8,7 @@ use Rattle.worst_search.proofs.search.Reads as search′
 use Rattle.worst_search.proofs.search.Kinds as search-kinds
 use Rattle.worst_search.proofs.+choose+search.Lts-choose as choose-lts
 use Rattle.worst_search.proofs.+choose+search.Lts-search as search-lts
-use Rattle.minmax.proofs.smaller.Reads as smaller-reads
+use Rattle.worst_search.proofs.keeps.Reads as keeps-reads
 use Rattle.worst_hits.proofs.entries_of.Reads as entries-of-reads
 use Rattle.worst_hits.proofs.lower.Reads as lower-reads
 use Rattle.worst_hits.proofs.raise.Reads as raise-reads
@@ -37,6 +37,8 @@ search-below t = and 4 search-kinds.ps (falls 4 search-kinds.ps _<_ μ-search t)
 -- what each of the two calls
 abbrev pub choose-calls : ℕ → choose-lts.Claims
 choose-calls t = (
+  keeps-reads.Asked,
+  keeps-reads.Learnt,
   entries-of-reads.Asked,
   entries-of-reads.Learnt,
   raise-reads.Asked,
@@ -49,8 +51,8 @@ choose-calls t = (
 
 abbrev pub search-calls : ℕ → search-lts.Claims
 search-calls t = (
-  smaller-reads.Asked,
-  smaller-reads.Learnt,
+  keeps-reads.Asked,
+  keeps-reads.Learnt,
   choose-rest-reads.Asked,
   choose-rest-reads.Learnt,
   last-node-reads.Asked,
