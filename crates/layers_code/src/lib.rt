@@ -18,7 +18,7 @@ ghost use Rattle.layers.specs.Layers.{sizes, checkRows};
 ghost use Rattle.layers.specs.Answers.{siteOf, DarkFits};
 ghost use Rattle.crowding_code.specs.Load.{firstLoad};
 
-// What checking rows gives: the verdict, and beside a good one the load of layer 0; 0 beside a refusal.
+// What checking rows gives: the verdict, and the load of layer 0, which counts for something beside a good one alone.
 pub struct RowsCheck {
     pub verdict: Verdict,
     pub load: usize,
