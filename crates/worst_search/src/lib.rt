@@ -79,10 +79,10 @@ fn choose(
     least
 }
 
-// Goes through the sets of k nodes that have those chosen and others from the next node on: first the sets with the next node,
-// then those without it, so that they come in dictionary order. Answers the fewest usable records so far, whose first set then
-// stands at the start of `out`. Where just as many nodes are left as are to come, all are chosen, and where one or two are to come, loops
-// do.
+// Goes through the sets of k nodes that have those chosen and others from the next node on: first the sets with the next node, then, as
+// the loop goes on to the node after it, those without it, so that they come in dictionary order. Answers the fewest usable records so
+// far, whose first set then stands at the start of `out`. Where just as many nodes are left as are to come, all are chosen, and where one
+// or two are to come, other loops do.
 pub fn search(
     search: Search,
     most: usize,
@@ -99,28 +99,38 @@ pub fn search(
 {
     let n = search.n;
     let k = search.k;
-    let node = search.next;
+    let s = search.s;
+    let first = search.next.0;
     let chosen = search.chosen;
-    let left = n - node.0 as usize;
+    let usable = search.usable;
+    let before = search.least;
     let more = k - chosen;
-    if left == more {
-        if keeps(search, most, index, hits) {
-            return search.least;
-        }
-        return choose_rest(search, index, hits, set, out);
-    }
     if more == 1 {
         return last_node(search, index, hits, set, out);
     }
     if more == 2 {
         return last_two(search, index, hits, set, out);
     }
-    let least = choose(search, most, index, hits, set, out);
-    let next = Node(node.0 + 1);
-    let others = Search {
-        next,
-        least,
-        ..search
-    };
-    crate::search(others, most, index, hits, set, out)
+    let mut least = before;
+    let mut v = first;
+    loop {
+        let next = Node(v);
+        let here = Search {
+            n,
+            k,
+            s,
+            next,
+            chosen,
+            usable,
+            least,
+        };
+        if n - v as usize == more {
+            if keeps(here, most, index, hits) {
+                return least;
+            }
+            return choose_rest(here, index, hits, set, out);
+        }
+        least = choose(here, most, index, hits, set, out);
+        v += 1;
+    }
 }
