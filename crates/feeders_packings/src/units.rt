@@ -25,7 +25,7 @@ pub(crate) fn check_units(
         ≡ verdict (unitsChecked number r at (layersAt r (take layers heads) (drop at (now (fed .entry))))) ⌝ }
 {
     let rows = crowding_code::count_rows(layers, heads);
-    let shared = rows_code::first_bad(&fed[at..], rows, r, number);
+    let shared = rows_code::first_bad(&fed[at..], rows, r, number, 0);
     if let RowFound::At(row) = shared {
         return Verdict::Refused(Refusal::SharedFeeder(crowding_code::row_start(at, r, row)));
     }

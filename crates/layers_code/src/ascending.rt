@@ -20,7 +20,7 @@ pub fn check_ascending(bytes: &[u8], at: usize, base: Base, rows: usize) -> Verd
 {
     let n = base.n;
     let r = base.r;
-    let bad = rows_code::first_bad(&bytes[at..], rows, r, n);
+    let bad = rows_code::first_bad(&bytes[at..], rows, r, n, 0);
     if let RowFound::At(row) = bad {
         return Verdict::Refused(Refusal::BadRow(row_start(at, r, row)));
     }

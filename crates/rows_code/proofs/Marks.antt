@@ -29,11 +29,11 @@ length-marksOf r zero = omega arith
 length-marksOf r (suc c) = length-rowMarks r (marksOf r c) ∙ omega (arith, length-marksOf r c)
 
 -- k rows from row j on, with a row after them, end before the bytes do
-pub marks-within : (r c k j at : ℕ) (s marks : List ℕ) → (0 < r) × ((c * r ≤ length s) × (marks ≡ marksOf r k)) → at ≡ j * r
+pub marks-within : (r c k j at : ℕ) (s marks : List ℕ) → 0 < r → c * r ≤ length s → marks ≡ marksOf r k → at ≡ j * r
     → k < c - j → at + length marks < length s
-marks-within r c k j at s marks pre here more =
+marks-within r c k j at s marks some all marked here more =
     let before : j + k < c = omega arith in
-    rw (pre .1 .1, length-marksOf r k) (omega (arith, pre .0, pre .1 .0, run-end-le r before))
+    rw (marked, length-marksOf r k) (omega (arith, some, all, run-end-le r before))
 
 -- the test goes on at the next byte
 pub below-next : (top : ℕ) (s : List ℕ) (at : ℕ) (marks : List ℕ) (fine : Bool) (i : ℕ) → i < length marks

@@ -31,7 +31,7 @@ fn is_below(node: Node, n: usize) -> bool
 }
 
 // Whether the row's nodes are strictly ascending and all below n: of ascending nodes only the last is compared with n.
-fn row_in_order(row: &[u8], n: usize) -> bool
+pub fn row_in_order(row: &[u8], n: usize) -> bool
     ensures { λ t. ⌜ t ≡ inOrder n (now (row .entry)) ⌝ }
 {
     if row.len() == 0 {
@@ -71,43 +71,48 @@ fn bad_row(rows: &[u8], c: usize, r: usize, n: usize, start: usize) -> RowFound
 }
 
 // The same, past sixteen rows at a time as long as they are in order.
-fn bad_of(rows: &[u8], c: usize, r: usize, n: usize, marks: &[u8]) -> RowFound
+fn bad_of(rows: &[u8], c: usize, r: usize, n: usize, start: usize, marks: &[u8]) -> RowFound
     requires { ⌜ 0 < r ⌝ }
     requires { ⌜ c * r ≤ length (now rows) ⌝ }
+    requires { ⌜ start ≤ c ⌝ }
+    requires { ⌜ All (λ row. T (inOrder n row)) (rowsAt r start (now rows)) ⌝ }
     requires { ⌜ now marks ≡ marksOf r 16 ⌝ }
     ensures { λ found. ⌜ found ≡ rowFound (firstBad n (rowsAt r c (now (rows .entry)))) ⌝ }
 {
-    let start = sixteen::past_sixteens(rows, c, r, n, marks);
-    bad_row(rows, c, r, n, start)
+    let passed = sixteen::past_sixteens(rows, c, r, n, start, marks);
+    bad_row(rows, c, r, n, passed)
 }
 
-// The same. For a length that is written as a number the compiler lays out the whole row, and the bytes of sixteen rows. The marks
-// are 255 at each row's last byte and 0 elsewhere, eight rows to a line.
-pub fn first_bad(rows: &[u8], c: usize, r: usize, n: usize) -> RowFound
+// The first of the c rows of r bytes that is not strictly ascending or has a node at or above n. The first `start` rows are in order,
+// and are not looked at again. For a length that is written as a number the compiler lays out the whole row, and the bytes of sixteen
+// rows. The marks are 255 at each row's last byte and 0 elsewhere, eight rows to a line.
+pub fn first_bad(rows: &[u8], c: usize, r: usize, n: usize, start: usize) -> RowFound
     requires { ⌜ c * r ≤ length (now rows) ⌝ }
+    requires { ⌜ start ≤ c ⌝ }
+    requires { ⌜ All (λ row. T (inOrder n row)) (rowsAt r start (now rows)) ⌝ }
     ensures { λ found. ⌜ found ≡ rowFound (firstBad n (rowsAt r c (now (rows .entry)))) ⌝ }
 {
     if r == 5 {
         let marks =
             b"\0\0\0\0\xff\0\0\0\0\xff\0\0\0\0\xff\0\0\0\0\xff\0\0\0\0\xff\0\0\0\0\xff\0\0\0\0\xff\0\0\0\0\xff\
             \0\0\0\0\xff\0\0\0\0\xff\0\0\0\0\xff\0\0\0\0\xff\0\0\0\0\xff\0\0\0\0\xff\0\0\0\0\xff\0\0\0\0\xff";
-        return bad_of(rows, c, 5, n, marks);
+        return bad_of(rows, c, 5, n, start, marks);
     }
     if r == 4 {
         let marks =
             b"\0\0\0\xff\0\0\0\xff\0\0\0\xff\0\0\0\xff\0\0\0\xff\0\0\0\xff\0\0\0\xff\0\0\0\xff\
             \0\0\0\xff\0\0\0\xff\0\0\0\xff\0\0\0\xff\0\0\0\xff\0\0\0\xff\0\0\0\xff\0\0\0\xff";
-        return bad_of(rows, c, 4, n, marks);
+        return bad_of(rows, c, 4, n, start, marks);
     }
     if r == 3 {
         let marks = b"\0\0\xff\0\0\xff\0\0\xff\0\0\xff\0\0\xff\0\0\xff\0\0\xff\0\0\xff\
             \0\0\xff\0\0\xff\0\0\xff\0\0\xff\0\0\xff\0\0\xff\0\0\xff\0\0\xff";
-        return bad_of(rows, c, 3, n, marks);
+        return bad_of(rows, c, 3, n, start, marks);
     }
     if r == 2 {
         let marks = b"\0\xff\0\xff\0\xff\0\xff\0\xff\0\xff\0\xff\0\xff\
             \0\xff\0\xff\0\xff\0\xff\0\xff\0\xff\0\xff\0\xff";
-        return bad_of(rows, c, 2, n, marks);
+        return bad_of(rows, c, 2, n, start, marks);
     }
-    bad_row(rows, c, r, n, 0)
+    bad_row(rows, c, r, n, start)
 }

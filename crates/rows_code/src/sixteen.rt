@@ -51,18 +51,27 @@ fn all_below(rows: &[u8], at: usize, marks: &[u8], top: u8) -> bool
     fine
 }
 
-// How many rows are passed, sixteen at a time, as long as they are in order. The last of the c rows are left: each byte is held
-// against the next one, and after the last there need be none.
-pub(crate) fn past_sixteens(rows: &[u8], c: usize, r: usize, n: usize, marks: &[u8]) -> usize
+// How many rows are passed, the first `start` rows, which are in order, and then sixteen at a time, as long as they are in order. The
+// last of the c rows are left: each byte is held against the next one, and after the last there need be none.
+pub(crate) fn past_sixteens(
+    rows: &[u8],
+    c: usize,
+    r: usize,
+    n: usize,
+    start: usize,
+    marks: &[u8],
+) -> usize
     requires { ⌜ 0 < r ⌝ }
     requires { ⌜ c * r ≤ length (now rows) ⌝ }
+    requires { ⌜ start ≤ c ⌝ }
+    requires { ⌜ All (λ row. T (inOrder n row)) (rowsAt r start (now rows)) ⌝ }
     requires { ⌜ now marks ≡ marksOf r 16 ⌝ }
     ensures { λ j. ⌜ j ≤ c ⌝ }
     ensures { λ j. ⌜ All (λ row. T (inOrder n row)) (rowsAt r j (now (rows .entry))) ⌝ }
 {
     let top = top_of(n);
-    let mut j: usize = 0;
-    let mut at: usize = 0;
+    let mut j = start;
+    let mut at = start * r;
     while c - j > 16 {
         if !all_below(rows, at, marks, top) {
             return j;

@@ -18,7 +18,7 @@ fn crowded_rows(rows: &[u8], c: usize, r: usize, x: usize, bound: usize) -> [usi
     if rows.len() < end {
         return unknown();
     }
-    let bad = rows_code::first_bad(rows, c, r, 256);
+    let bad = rows_code::first_bad(rows, c, r, 256, 0);
     let RowFound::Nothing = bad else {
         return unknown();
     };

@@ -6,6 +6,7 @@ use lib.ListN.{length, take, drop, length-drop}
 use Rattle.lists.proofs.Writing.{take-drop-rest}
 use Rattle.refusal.specs.declared.Refusal.the-variants.{SharedFeeder}
 use Rattle.refusal.specs.declared.Verdict.the-variants.{Refused}
+use Rattle.packing.specs.Rows.{rowsAt}
 use Rattle.crowding_code.proofs.AllRows.{rows-small}
 use Rattle.feeders_packings.proofs.UnitAnswers.{shared-place, shared-refused, units-ascend, units-left}
 use borrow.Author.Needs.{needs}
@@ -45,10 +46,11 @@ part-first-bad-end : tie.Need-part-first-bad-end
 part-first-bad-end c = search needs
 
 first-bad-requires : tie.Need-first-bad-requires
+unfolding rowsAt
 first-bad-requires c κs =
     let k = c .before in
     let a = k .before .before .args in
-    rw (part k, length-drop (a .at) (a .fed .now)) (omega (arith, fits k))
+    (rw (part k, length-drop (a .at) (a .fed .now)) (omega (arith, fits k)), (search needs, tt))
 
 enum-known-shared : tie.Need-enum-known-shared
 enum-known-shared c = search needs

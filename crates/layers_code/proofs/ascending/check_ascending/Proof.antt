@@ -7,7 +7,7 @@ use lib.ListN.{length, take, drop}
 use Rattle.lists.proofs.Writing.{take-drop-rest}
 use Rattle.refusal.specs.declared.Refusal.the-variants.{BadRow}
 use Rattle.refusal.specs.declared.Verdict.the-variants.{Refused}
-use Rattle.packing.specs.Rows.{inOrder, firstBad}
+use Rattle.packing.specs.Rows.{inOrder, rowsAt, firstBad}
 use Rattle.layers.specs.Layers.{checkAscending}
 use Rattle.layers_code.proofs.FirstRow.{row-place, row-refused, no-row}
 use borrow.Author.Needs.{needs}
@@ -24,7 +24,8 @@ part-first-bad-end : tie.Need-part-first-bad-end
 part-first-bad-end c = search needs
 
 first-bad-requires : tie.Need-first-bad-requires
-first-bad-requires c κs = search needs
+unfolding rowsAt
+first-bad-requires c κs = (search needs, (search needs, tt))
 
 enum-known-bad : tie.Need-enum-known-bad
 enum-known-bad c = search needs

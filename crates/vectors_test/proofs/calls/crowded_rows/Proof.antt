@@ -37,7 +37,8 @@ returns : tie.Need-returns
 returns c = search needs
 
 first-bad-requires : tie.Need-first-bad-requires
-first-bad-requires c κs = search needs
+unfolding rowsAt
+first-bad-requires c κs = (search needs, (search needs, tt))
 
 enum-told : tie.Need-enum-told
 enum-told c = search needs
