@@ -73,7 +73,7 @@ module _ (t : ℕ) where
       let up = c .before .before .before .before .before .before in
       let known = entries up in
       let s = start known in (
-        omega (arith, s .pre .0, s .pre .1 .0 .more),
+        omega (arith, s .pre .0, s .pre .1 .0 .below),
         (to-search (s .pre .1 .0) (known .entries-of .ensures) (up .raise .ensures) (s .pre .1 .1 .1), s .pre .1 .1 .0),
       )
 

@@ -1,4 +1,4 @@
--- The nodes that are still to be chosen fall: what ends the cycle of `choose` and `search`. Assumes nothing.
+-- The nodes that are left fall: what ends the cycle of `choose` and `search`. Assumes nothing.
 use Prim.Native.Nat.{ℕ, _+_, _*_, _-_, _<_}
 use borrow.Fn.Kinds.{In}
 use borrow.Fn.PlainCycle.{Measures, is, falls, and}
@@ -17,10 +17,10 @@ use Rattle.worst_last.proofs.last_node.Reads as last-node-reads
 use Rattle.worst_two.proofs.last_two.Reads as last-two-reads
 
 abbrev pub μ-choose : Measures 4 choose-kinds.ps ℕ
-μ-choose κs a = 2 * (a .0 .k - a .0 .chosen)
+μ-choose κs a = 2 * (a .0 .n - a .0 .next .0)
 
 abbrev pub μ-search : Measures 4 search-kinds.ps ℕ
-μ-search κs a = 2 * (a .0 .k - a .0 .chosen) + 1
+μ-search κs a = 2 * (a .0 .n - a .0 .next .0) + 1
 
 abbrev pub choose-at : ℕ → In 4 choose-kinds.ps
 choose-at t = and 4 choose-kinds.ps (is 4 choose-kinds.ps μ-choose t) choose.Pre
