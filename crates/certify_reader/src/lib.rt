@@ -49,7 +49,7 @@ fn check_rows(bytes: &[u8], at: usize, base: Base, b: usize) -> Verdict
     if end < bytes.len() {
         return Verdict::Refused(Refusal::Trailing(end));
     }
-    let order = layers_code::check_ascending(bytes, at, base, b);
+    let order = layers_code::check_ascending(bytes, at, base, b, 0);
     if let Verdict::Refused(e) = order {
         return Verdict::Refused(e);
     }

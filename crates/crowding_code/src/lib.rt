@@ -11,6 +11,7 @@ use packing::RowFound;
 pub use packings::check_packings;
 pub use place::row_start;
 pub use sizes::count_rows;
+pub use sizes::first_size;
 ghost use mathlib.Core.Path.{_≡_};
 ghost use Prim.Native.Nat.{_*_, _≤_, _<_};
 ghost use lib.Dec.{T};

@@ -10,9 +10,6 @@ pub fn first_load(bytes: &[u8], at: usize, r: usize, layers: usize, heads: [Laye
     requires { ⌜ PackingsAsked r layers heads (now bytes) at ⌝ }
     ensures { λ load. ⌜ (0 < layers → load ≡ firstLoad r heads (now (bytes .entry)) at) ⌝ }
 {
-    if layers == 0 {
-        return 0;
-    }
-    let c = heads[0].size;
+    let c = crate::first_size(layers, heads);
     rows_load::most_load(&bytes[at..], c, r, 256)
 }

@@ -7,15 +7,15 @@ use mathlib.Core.Option.{Option, none, some}
 use lib.ListN.{length, drop}
 use lib.Dec.{T}
 use borrow.Author.Tests.{le-leb, lt-leb}
-use Rattle.lists.proofs.Alls.{all-imp}
-use Rattle.lists.proofs.Tests.{and-left}
+use Rattle.lists.specs.Lists.{All}
 use Rattle.refusal.specs.declared.Refusal.{Refusal}
 use Rattle.refusal.specs.declared.Refusal.the-variants.{Ended, Trailing, BadRow}
 use Rattle.refusal.specs.declared.Verdict.{Verdict}
 use Rattle.refusal.specs.declared.Verdict.the-variants.{Good, Refused}
 use Rattle.refusal.specs.Checked.{Checked, accepted, refused, _>>=_, verdict}
 use Rattle.refusal.proofs.Checked.{verdict-good, verdict-refused, refused-not-accepted}
-use Rattle.packing.specs.Rows.{ascending, inOrder, rowsAt, firstBad}
+use Rattle.packing.specs.Rows.{inOrder, rowsAt, firstBad}
+use Rattle.packing.proofs.Load.{rows-ascend}
 use Rattle.packing.proofs.Test.{good-iff-in-order}
 use Rattle.layers.specs.Layers.{Layer, Site, sizes, allRows, layersAt, refuseRow, checkLength, checkEnd, checkAscending, checkService, checkPackings, checkRows}
 use Rattle.layers.specs.declared.LayerHead.{LayerHead}
@@ -27,16 +27,18 @@ pub verdict-left : {A : Type 0} (m : Checked Unit) (a : A) → verdict m ≡ ver
 verdict-left (accepted u) a = refl
 verdict-left (refused e) a = refl
 
--- rows of which none is bad ascend
-ascend : (base : Site) (at : ℕ) (rows : List (List ℕ)) {u : Unit} → checkAscending base at rows ≡ accepted u → Ascending rows
+-- rows of which none is bad are in order, and ascend
+pub in-order : (base : Site) (at : ℕ) (rows : List (List ℕ)) {u : Unit} → checkAscending base at rows ≡ accepted u
+    → All (λ row. T (inOrder (base .n) row)) rows
 unfolding checkAscending
-ascend base at rows e =
-    all-imp (λ row. T (inOrder (base .n) row)) (λ row. T (ascending 0 row)) (λ row t. and-left (ascending 0 row) _ t) rows
-    (good-iff-in-order (base .n) rows .0 (none-found (firstBad (base .n) rows) e))
+in-order base at rows e = good-iff-in-order (base .n) rows .0 (none-found (firstBad (base .n) rows) e)
   where
     none-found : (o : Option ℕ) {u : Unit} → refuseRow BadRow (base .r) at o ≡ accepted u → o ≡ none
     none-found none e = refl
     none-found (some i) e = absurd (refused-not-accepted e)
+
+ascend : (base : Site) (at : ℕ) (rows : List (List ℕ)) {u : Unit} → checkAscending base at rows ≡ accepted u → Ascending rows
+ascend base at rows e = rows-ascend (base .n) rows (in-order base at rows e)
 
 module _ (base : Site) (heads : List LayerHead) (s : List ℕ) (at rows : ℕ) (count : rows ≡ sizes heads) where
   pub rows-short : length s < at + rows * base .r → Refused (Ended (length s)) ≡ verdict (checkRows base heads s at)

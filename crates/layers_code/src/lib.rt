@@ -35,7 +35,7 @@ fn refuse(e: Refusal) -> RowsCheck
 }
 
 // The rows of the layers, whose first row starts at `at`: good, or refusal 1 or 5 for their length, 6 over all
-// of them, 15, 7. The load of layer 0, which its packing test counts, is handed on.
+// of them, 15, 7. The load of layer 0, which is counted as its order is tested, is handed on.
 pub fn check_rows(
     bytes: &[u8],
     at: usize,
@@ -58,15 +58,22 @@ pub fn check_rows(
     if end < bytes.len() {
         return refuse(Refusal::Trailing(end));
     }
-    let order = check_ascending(bytes, at, base, rows);
-    if let Verdict::Refused(e) = order {
+    let c = crowding_code::first_size(layers, heads);
+    let order = ascending::check_order(bytes, at, base, rows, c);
+    let order_verdict = order.verdict;
+    if let Verdict::Refused(e) = order_verdict {
         return refuse(e);
     }
     let service = check_service(bytes, at, base, rows);
     if let Verdict::Refused(e) = service {
         return refuse(e);
     }
-    let load = crowding_code::first_load(bytes, at, r, layers, heads);
+    let load = order.load;
+    // Where layer 0 has all rows its load alone settles the packing test, if it is low enough.
+    if c == rows && load <= heads[0].bound {
+        let verdict = Verdict::Good;
+        return RowsCheck { verdict, load };
+    }
     let verdict = crowding_code::check_packings(bytes, at, r, layers, heads, load);
     RowsCheck { verdict, load }
 }

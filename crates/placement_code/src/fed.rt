@@ -43,7 +43,7 @@ fn check_rows(
 {
     let r = base.r;
     let rows = crowding_code::count_rows(layers, heads);
-    let order = layers_code::check_ascending(bytes, at, base, rows);
+    let order = layers_code::check_ascending(bytes, at, base, rows, 0);
     if let Verdict::Refused(e) = order {
         return Verdict::Refused(e);
     }

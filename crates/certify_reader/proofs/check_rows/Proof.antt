@@ -6,6 +6,7 @@ use native.Mathlib.Nat.{mul-le-mul}
 use mathlib.Core.Path.{_≡_}
 use lib.ListN.{length}
 use Rattle.refusal.proofs.Checked.{verdict-good, verdict-refused}
+use Rattle.packing.specs.Rows.{rowsAt}
 use Rattle.certify.proofs.Answered.{rows-short, rows-long, rows-unordered, rows-last}
 use borrow.Author.Needs.{needs}
 use Rattle.certify_reader.proofs.check_rows.Statement.{statement}
@@ -29,7 +30,8 @@ returns-2 : tie.Need-returns-2
 returns-2 c = rows-long _ _ _ _ (c .if2 .taken)
 
 check-ascending-requires : tie.Need-check-ascending-requires
-check-ascending-requires c κs = search needs
+unfolding rowsAt
+check-ascending-requires c κs = (search needs, (search needs, tt))
 
 enum-known-order : tie.Need-enum-known-order
 enum-known-order c = search needs

@@ -12,13 +12,13 @@ use Rattle.rows_load.proofs.largest_count.Tie as tie
 
 abbrev Inv-loop : tie.InvT-loop
 Inv-loop counts most₀ looked₀ most looked =
-    (looked ≤ length counts) × (largest counts ≡ max most (largest (drop looked counts)))
+    (looked ≤ length counts) × (most ≤ 65_535) × (largest counts ≡ max most (largest (drop looked counts)))
 
 abbrev μ-loop : tie.MeasureT-loop
 μ-loop counts most₀ looked₀ most looked = length counts - looked
 
 loop-holds : tie.Need-loop-holds Inv-loop μ-loop
-loop-holds c = search needs
+loop-holds c = (search needs, omega arith, search needs)
 
 mul-larger : tie.Need-mul-larger Inv-loop μ-loop
 mul-larger c = search needs
@@ -40,16 +40,20 @@ loop-again c =
     let l = c .before .before .before .loop in
     let counts = c .before .before .before .before .before .args .counts .now in (
       omega arith,
-      l .inv .1
+      omega (arith, c .larger .ensures, l .inv .1, c .before .before .before .before .shared-slice-known .given (l .looked)),
+      l .inv .2
           ∙ largest-next counts (l .looked) (l .most) (c .before .before .loop-test .taken)
           ∙ ap (λ best. max best (largest (drop (l .looked + 1) counts))) (sym (c .larger .ensures)),
     )
+
+cast-result : tie.Need-cast-result Inv-loop μ-loop
+cast-result c = omega (arith, c .before .loop .inv .1)
 
 returns : tie.Need-returns Inv-loop μ-loop
 returns c =
     let l = c .before .loop in
     let counts = c .before .before .before .args .counts .now in
-    sym (l .inv .1 ∙ largest-end counts (l .looked) (l .most) (c .loop-test .left))
+    sym (l .inv .2 ∙ largest-end counts (l .looked) (l .most) (c .loop-test .left))
 
 pub largest-count-spec : {M : Type 1} → statement M
 largest-count-spec =
@@ -64,4 +68,5 @@ largest-count-spec =
     add-looked
     loop-less
     loop-again
+    cast-result
     returns)

@@ -15,7 +15,7 @@ most-load-requires c κs =
     let s = c .before .before in
     let a = s .args in
     let p = s .pre .0 in
-    (p .within, (lit≤ tt, rows-in-order (a .r) (a .c) (a .rows .now) (λ i. c .before .shared-slice-known .given i .fits) (p .ordered)))
+    ((p .few, p .r-most, p .within), (lit≤ tt, rows-in-order (a .r) (a .c) (a .rows .now) (λ i. c .before .shared-slice-known .given i .fits) (p .ordered)))
 
 returns : tie.Need-returns
 returns c =

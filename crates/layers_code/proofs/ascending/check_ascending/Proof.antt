@@ -3,11 +3,11 @@ use Prim.Native.Nat.{_-_}
 use native.Mathlib.Omega.{arith}
 use mathlib.Core.Path.{_≡_, _∙_, ap}
 use mathlib.Core.Bool.{not}
-use lib.ListN.{length, take, drop}
+use lib.ListN.{length, take, drop, length-drop}
 use Rattle.lists.proofs.Writing.{take-drop-rest}
 use Rattle.refusal.specs.declared.Refusal.the-variants.{BadRow}
 use Rattle.refusal.specs.declared.Verdict.the-variants.{Refused}
-use Rattle.packing.specs.Rows.{inOrder, rowsAt, firstBad}
+use Rattle.packing.specs.Rows.{inOrder, firstBad}
 use Rattle.layers.specs.Layers.{checkAscending}
 use Rattle.layers_code.proofs.FirstRow.{row-place, row-refused, no-row}
 use borrow.Author.Needs.{needs}
@@ -23,18 +23,20 @@ part-first-bad-start c = search needs
 part-first-bad-end : tie.Need-part-first-bad-end
 part-first-bad-end c = search needs
 
-first-bad-requires : tie.Need-first-bad-requires
-unfolding rowsAt
-first-bad-requires c κs = (search needs, (search needs, tt))
-
-enum-known-bad : tie.Need-enum-known-bad
-enum-known-bad c = search needs
-
 -- the part of the bytes that begins at the first row
 part : (c : tie.After-shared-slice-known)
     → let a = c .before .args in
     take (length (a .bytes .now) - a .at) (drop (a .at) (a .bytes .now)) ≡ drop (a .at) (a .bytes .now)
 part c = take-drop-rest (c .before .args .bytes .now) (c .before .args .at)
+
+first-bad-requires : tie.Need-first-bad-requires
+first-bad-requires c κs =
+    let a = c .before .before .args in
+    let p = c .before .before .pre in
+    rw (part (c .before), length-drop (a .at) (a .bytes .now)) (omega (arith, p .0), (p .1 .0, p .1 .1))
+
+enum-known-bad : tie.Need-enum-known-bad
+enum-known-bad c = search needs
 
 row-start-requires : tie.Need-row-start-requires
 unfolding firstBad
@@ -43,7 +45,7 @@ row-start-requires c κs =
     let a = l .before .args in
     let place = row-place BadRow (λ row. not (inOrder (a .base .n) row)) (a .base .r) (a .bytes .now) (a .at) (a .rows) _ (part l) _ (c .before .before .before .first-bad .ensures)
     (c .before .bad .given .1) in
-    omega (arith, l .before .pre, l .before .good .0)
+    omega (arith, l .before .pre .0, l .before .good .0)
 
 returns : tie.Need-returns
 unfolding firstBad checkAscending

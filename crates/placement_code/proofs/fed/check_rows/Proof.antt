@@ -3,6 +3,7 @@ use Prim.Native.Nat.{_+_, _*_, _≤_}
 use native.Mathlib.Omega.{arith}
 use mathlib.Core.Path.{ap}
 use lib.ListN.{length}
+use Rattle.packing.specs.Rows.{rowsAt}
 use Rattle.placement.specs.Asked.{tableFeeders}
 use Rattle.placement_code.proofs.FedAnswers.{fed-unordered, fed-rows, fed-dark, fed-left}
 use borrow.Author.Needs.{needs}
@@ -24,7 +25,8 @@ fits c =
     omega (arith, c .before .before .pre .inside)
 
 check-ascending-requires : tie.Need-check-ascending-requires
-check-ascending-requires c κs = fits c
+unfolding rowsAt
+check-ascending-requires c κs = (fits c, (search needs, tt))
 
 enum-known-order : tie.Need-enum-known-order
 enum-known-order c = search needs

@@ -30,6 +30,8 @@ largest-load-requires c κs =
     let k = known accepted in
     record {
       n-most = k .n-most;
+      b-most = k .b-most;
+      r-most = k .r-most;
       within = k .within;
       ordered = k .ordered;
       handed = accepted .before .before .before .before .check-loaded .ensures .1 .counted _ (accepted .answer2 .given .1);

@@ -32,7 +32,7 @@ most-load-requires c κs =
     let s = c .before .before .before .before in
     let a = s .args in
     rw (take-drop-rest (a .input .now) (a .head .first), length-drop (a .head .first) (a .input .now))
-    (omega (arith, s .pre .within), (omega (arith, s .pre .n-most), s .pre .ordered))
+    ((s .pre .b-most, s .pre .r-most, omega (arith, s .pre .within)), (omega (arith, s .pre .n-most), s .pre .ordered))
 
 returns-2 : tie.Need-returns-2
 returns-2 c =

@@ -9,7 +9,6 @@ use lib.ListN.{length}
 use borrow.Author.Needs.{needs}
 use borrow.Author.Tests.{not-false}
 use Rattle.lists.specs.Lists.{All}
-use Rattle.lists.proofs.Arith.{run-end-le}
 use Rattle.packing.specs.Rows.{inOrder, rowsAt}
 use Rattle.rows_code.proofs.Marks.{marks-within, length-marksOf, rows-more}
 use Rattle.rows_code.proofs.sixteen.past_sixteens.Statement.{statement}
