@@ -4,7 +4,7 @@ use mathlib.Core.Path.{_≡_, refl, _∙_}
 use mathlib.Core.List.{List}
 use native.Mathlib.Nat.{mul-le-mul}
 use native.Mathlib.Omega.{arith}
-use lib.ListN.{length, length-replicate}
+use lib.ListN.{length}
 use Rattle.lists.specs.Lists.{largest}
 use Rattle.lists.proofs.Largest.{largest-le}
 use Rattle.packing.specs.Rows.{rowsAt}
@@ -25,7 +25,7 @@ searchRows level bound high = record { level = level; bound = bound; low = recor
 
 module _ {rows : List ℕ} {c : ℕ} {level : Level} (pre : RowsToSearch rows c level) where
   -- at most 4,096 rows of five
-  few-bytes : length rows ≤ 20480
+  pub few-bytes : length rows ≤ 20480
   few-bytes =
       omega (
         arith,
@@ -33,13 +33,13 @@ module _ {rows : List ℕ} {c : ℕ} {level : Level} (pre : RowsToSearch rows c 
         pre .whole,
       )
 
-  pub root-to-link : RowsToLink rows c level (zeros 256) (zeros 256) (zeros 20480)
-  root-to-link = record {
+  pub root-to-link : {next : List ℕ} → length rows ≤ length next → RowsToLink rows c level (zeros 256) (zeros 256) next
+  root-to-link entries = record {
     limits = pre .limits;
     slices = record {
       all-heads = refl;
       all-counts = refl;
-      entries = omega (arith, few-bytes, length-replicate {A = ℕ} 20480 0);
+      entries = entries;
       short = omega (arith, few-bytes);
     };
     none = at-most-zero 256;
@@ -50,11 +50,10 @@ module _ {rows : List ℕ} {c : ℕ} {level : Level} (pre : RowsToSearch rows c 
 
   module _ {heads counts next : List ℕ} (linked : RowsLinked rows c level heads counts next) where
     pub root-to-visit : (bound : ℕ) (high : Node) → high .0 ≡ largest rows → length heads ≡ length (zeros 256)
-        → length counts ≡ length (zeros 256) → length next ≡ length (zeros 20480)
-        → LevelToVisit rows (searchRows level bound high) heads counts next
-    root-to-visit bound high is eh ec en = record {
+        → length counts ≡ length (zeros 256) → length rows ≤ length next → LevelToVisit rows (searchRows level bound high) heads counts next
+    root-to-visit bound high is eh ec entries = record {
       limits = pre .limits;
-      slices = slices-kept (root-to-link .slices) eh ec en;
+      slices = slices-kept (root-to-link {next = next} entries .slices) eh ec refl;
       order = pre .order;
       nodes = λ p. omega (arith, largest-le rows p);
       few = λ v. omega (arith, linked .few v, pre .few);

@@ -1,5 +1,12 @@
 -- `crowding_most::most::most_held` meets its contract: the rows' nodes are the first level. Assumes nothing.
-use Rattle.crowding.proofs.VisitRows.{root-to-link, root-to-visit}
+use Prim.Native.Nat.{ℕ, _≤_}
+use native.Mathlib.Omega.{arith}
+use mathlib.Core.List.{List}
+use lib.ListN.{length, length-replicate}
+use Rattle.crowding.specs.declared.Level.{Level}
+use Rattle.crowding.specs.Visiting.{RowsToSearch}
+use Rattle.crowding.proofs.Lengths.{zeros}
+use Rattle.crowding.proofs.VisitRows.{few-bytes, root-to-link, root-to-visit}
 use Rattle.crowding_most.proofs.Grow.{grown-rows}
 use borrow.Author.Needs.{needs}
 use Rattle.crowding_most.proofs.most.most_held.Statement.{statement}
@@ -13,6 +20,10 @@ start c = c .before .before .before .before .before
 abbrev linked : tie.After-highest → tie.After-link-rows
 linked c = c .before .before .before .before
 
+-- there is a place for each byte
+enough : {rows : List ℕ} {c : ℕ} {level : Level} → RowsToSearch rows c level → length rows ≤ length (zeros 20480)
+enough pre = omega (arith, few-bytes pre, length-replicate {A = ℕ} 20480 0)
+
 slice-aggregate-link-rows : tie.Need-slice-aggregate-link-rows
 slice-aggregate-link-rows c = search needs
 
@@ -23,7 +34,7 @@ slice-aggregate-link-rows-3 : tie.Need-slice-aggregate-link-rows-3
 slice-aggregate-link-rows-3 c = search needs
 
 link-rows-requires : tie.Need-link-rows-requires
-link-rows-requires c κs = root-to-link (c .before .before .before .before .pre)
+link-rows-requires c κs = let pre = c .before .before .before .before .pre in root-to-link pre (enough pre)
 
 highest-requires : tie.Need-highest-requires
 highest-requires c κs = search needs
@@ -44,7 +55,7 @@ children-requires c κs =
     let called = linked looked .link-rows in
     let lengths = called .kept .1 .1 .1 in
     root-to-visit (s .pre) (called .ensures) 0 (looked .highest .result) (looked .highest .ensures) (lengths .0) (lengths .1 .0)
-    (lengths .1 .1 .0)
+    (omega (arith, enough (s .pre), lengths .1 .1 .0))
 
 returns : tie.Need-returns
 returns c =

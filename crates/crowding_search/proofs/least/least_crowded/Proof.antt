@@ -1,67 +1,35 @@
--- `crowding_search::least::least_crowded` meets its contract: the rows' nodes are the first level. Assumes nothing.
-use Rattle.crowding.proofs.VisitRows.{root-to-link, root-to-visit, root-visited}
+-- `crowding_search::least::least_crowded` meets its contract: there is a place for each byte of the rows. Assumes nothing.
+use native.Mathlib.Omega.{arith}
+use Rattle.crowding.proofs.VisitRows.{few-bytes}
 use borrow.Author.Needs.{needs}
 use Rattle.crowding_search.proofs.least.least_crowded.Statement.{statement}
 use Rattle.crowding_search.proofs.least.least_crowded.Tie as tie
 
--- what the call was given
-abbrev start : tie.After-link-rows → tie.Start
-start c = c .before .before .before .before .before
+slice-aggregate-least-along : tie.Need-slice-aggregate-least-along
+slice-aggregate-least-along c = search needs
 
--- where the rows are linked
-abbrev linked : tie.After-highest → tie.After-link-rows
-linked c = c .before .before .before .before
-
-slice-aggregate-link-rows : tie.Need-slice-aggregate-link-rows
-slice-aggregate-link-rows c = search needs
-
-slice-aggregate-link-rows-2 : tie.Need-slice-aggregate-link-rows-2
-slice-aggregate-link-rows-2 c = search needs
-
-slice-aggregate-link-rows-3 : tie.Need-slice-aggregate-link-rows-3
-slice-aggregate-link-rows-3 c = search needs
-
-link-rows-requires : tie.Need-link-rows-requires
-link-rows-requires c κs = root-to-link (c .before .before .before .before .pre)
-
-highest-requires : tie.Need-highest-requires
-highest-requires c κs = search needs
-
-slice-aggregate-children : tie.Need-slice-aggregate-children
-slice-aggregate-children c = search needs
-
-slice-aggregate-children-2 : tie.Need-slice-aggregate-children-2
-slice-aggregate-children-2 c = search needs
-
-slice-aggregate-children-3 : tie.Need-slice-aggregate-children-3
-slice-aggregate-children-3 c = search needs
-
-children-requires : tie.Need-children-requires
-children-requires c κs =
-    let looked = c .before .before .before in
-    let rows = linked looked in
-    let s = start rows in
-    let lengths = rows .link-rows .kept .1 .1 .1 in
-    root-to-visit (s .pre) (rows .link-rows .ensures) (s .args .bound) (looked .highest .result) (looked .highest .ensures) (lengths .0)
-    (lengths .1 .0) (lengths .1 .1 .0)
+least-along-requires : tie.Need-least-along-requires
+least-along-requires c κs = search needs
 
 returns : tie.Need-returns
-returns c =
-    let found = c .before in
-    let rows = linked (found .before .before .before .before) in
-    root-visited (start rows .pre) (rows .link-rows .ensures) (found .children .ensures)
+returns c = search needs
+
+slice-aggregate-least-along-2 : tie.Need-slice-aggregate-least-along-2
+slice-aggregate-least-along-2 c = search needs
+
+least-along-requires-2 : tie.Need-least-along-requires-2
+least-along-requires-2 c κs = let p = c .before .before .before .pre in (p, omega (arith, few-bytes p))
+
+returns-2 : tie.Need-returns-2
+returns-2 c = search needs
 
 pub least-crowded-spec : {M : Type 1} → statement M
 least-crowded-spec =
     tie.close
     (tie.spec
-    slice-aggregate-link-rows
-    slice-aggregate-link-rows-2
-    slice-aggregate-link-rows-3
-    link-rows-requires
-    highest-requires
-    slice-aggregate-children
-    slice-aggregate-children-2
-    slice-aggregate-children-3
-    children-requires
-    returns)
+    slice-aggregate-least-along
+    least-along-requires
+    returns
+    slice-aggregate-least-along-2
+    least-along-requires-2
+    returns-2)
