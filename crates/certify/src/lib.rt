@@ -4,7 +4,7 @@ use placement::Order;
 use refusal::Verdict;
 
 // What reading s, k and b gives, with the next place; all numbers are 0 beside a refusal.
-#[derive(Drop)]
+#[derive(Clone, Copy)]
 pub struct OrderRead {
     pub verdict: Verdict,
     pub order: Order,
@@ -13,7 +13,7 @@ pub struct OrderRead {
 
 // What checking a file of bare rows gives: n, r and the nodes out of service, s, k and b, and the place of the first row; all
 // numbers are 0 beside a refusal.
-#[derive(Drop)]
+#[derive(Clone, Copy)]
 pub struct BareRead {
     pub verdict: Verdict,
     pub base: Base,
@@ -22,7 +22,7 @@ pub struct BareRead {
 }
 
 // A layer for all rows: the least lambda that holds there, and the figure.
-#[derive(Drop)]
+#[derive(Clone, Copy)]
 pub struct Choice {
     pub layer: usize,
     pub lambda: usize,

@@ -7,7 +7,7 @@ mod weights;
 pub use rows::keep_rows;
 
 // In c rows, sets of x+1 nodes that may stand together in `bound` of the rows.
-#[derive(Drop)]
+#[derive(Clone, Copy)]
 pub struct Sets {
     pub c: usize,
     pub x: usize,

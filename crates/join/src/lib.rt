@@ -3,14 +3,14 @@ use layers::{Dark, LayerHead};
 use refusal::Refusal;
 
 // How many bytes the joined pack has, now at the output's start; or the refusal.
-#[derive(Drop)]
+#[derive(Clone, Copy)]
 pub enum Joined {
     Written(usize),
     Refused(Refusal),
 }
 
 // A pack that is joined: its nodes, the place of its first block, mu and m of each layer, and the nodes out of service.
-#[derive(Drop)]
+#[derive(Clone, Copy)]
 pub struct Piece {
     pub nodes: usize,
     pub place: usize,
@@ -19,7 +19,7 @@ pub struct Piece {
 }
 
 // Three packs of one r; one that is not there has no node and no block.
-#[derive(Drop)]
+#[derive(Clone, Copy)]
 pub struct Estate {
     pub r: usize,
     pub a: Piece,
@@ -28,7 +28,7 @@ pub struct Estate {
 }
 
 // The joined pack's mu and m of each layer, the largest mu, and all m's together. A mu above 4,096 is given as 4,097.
-#[derive(Drop)]
+#[derive(Clone, Copy)]
 pub struct JointHeads {
     pub most: usize,
     pub rows: usize,
@@ -36,7 +36,7 @@ pub struct JointHeads {
 }
 
 // One layer: the joined mu, each pack's own, and how many nodes come before those of the second and of the third.
-#[derive(Drop)]
+#[derive(Clone, Copy)]
 pub struct Layering {
     pub mu: usize,
     pub a: usize,

@@ -2,21 +2,21 @@
 use refusal::Verdict;
 
 // Which file is read: each has its own first numbers.
-#[derive(Drop)]
+#[derive(Clone, Copy)]
 pub enum FileKind {
     Pack,
     Placement,
 }
 
 // The nodes out of service, in order: the first `count` entries; those after them are 0.
-#[derive(Drop)]
+#[derive(Clone, Copy)]
 pub struct Dark {
     pub count: usize,
     pub nodes: [usize; 255],
 }
 
 // What reading the list of these nodes gives, with the next place; the list is empty beside a refusal.
-#[derive(Drop)]
+#[derive(Clone, Copy)]
 pub struct DarkRead {
     pub verdict: Verdict,
     pub dark: Dark,
@@ -24,7 +24,7 @@ pub struct DarkRead {
 }
 
 // What every file has after its kind: n nodes, r replicas, and the nodes out of service.
-#[derive(Drop)]
+#[derive(Clone, Copy)]
 pub struct Base {
     pub n: usize,
     pub r: usize,
@@ -32,7 +32,7 @@ pub struct Base {
 }
 
 // What reading the kind, n, r and the list gives, with the next place; all numbers are 0 beside a refusal.
-#[derive(Drop)]
+#[derive(Clone, Copy)]
 pub struct BaseRead {
     pub verdict: Verdict,
     pub kind: usize,
@@ -41,7 +41,7 @@ pub struct BaseRead {
 }
 
 // A layer's two numbers in the head: its bound (mu or lambda) and its size (m or c).
-#[derive(Drop)]
+#[derive(Clone, Copy)]
 pub struct LayerHead {
     pub bound: usize,
     pub size: usize,
@@ -49,7 +49,7 @@ pub struct LayerHead {
 
 // The limits of a layer's two numbers: the bound is from `lo` to `hi`; the sizes so far sum to at most a limit, and, where
 // `full`, the last must equal what is left of it.
-#[derive(Drop)]
+#[derive(Clone, Copy)]
 pub struct LayerLimits {
     pub lo: usize,
     pub hi: usize,
@@ -58,7 +58,7 @@ pub struct LayerLimits {
 
 // What reading the two numbers of every layer gives, with the next place; entries past the layers are 0, and so are all
 // numbers beside a refusal.
-#[derive(Drop)]
+#[derive(Clone, Copy)]
 pub struct LayersRead {
     pub verdict: Verdict,
     pub heads: [LayerHead; 5],

@@ -16,7 +16,7 @@ use refusal::{Refusal, Verdict};
 pub use service::check_service;
 
 // What checking rows gives: the verdict, and the load of layer 0, which counts for something beside a good one alone.
-#[derive(Drop)]
+#[derive(Clone, Copy)]
 pub struct RowsCheck {
     pub verdict: Verdict,
     pub load: usize,

@@ -6,14 +6,14 @@ use text::TextRefusal;
 pub const TEXT_MOST: usize = 131_072;
 
 // A word read as a number: its value, or that it is none.
-#[derive(Drop)]
+#[derive(Clone, Copy)]
 pub enum Typed {
     Number(u32),
     Other,
 }
 
 // A word read as a node's new state.
-#[derive(Drop)]
+#[derive(Clone, Copy)]
 pub enum State {
     Down,
     Up,
@@ -21,7 +21,7 @@ pub enum State {
 }
 
 // A line of a log: an event, or nothing, or a line that can't be read.
-#[derive(Drop)]
+#[derive(Clone, Copy)]
 pub enum LogLine {
     Happens(Event),
     Nothing,
@@ -29,14 +29,14 @@ pub enum LogLine {
 }
 
 // Where reading a log ends: at the text's end, or at a refusal.
-#[derive(Drop)]
+#[derive(Clone, Copy)]
 pub enum LogEnd {
     Whole,
     Refused(TextRefusal),
 }
 
 // The events that were read, at the start of the array, and where reading ended.
-#[derive(Drop)]
+#[derive(Clone, Copy)]
 pub struct Log {
     pub end: LogEnd,
     pub count: usize,

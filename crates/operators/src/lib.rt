@@ -1,7 +1,7 @@
 // Two operators who keep records on the same nodes.
 
 // One operator's order: s and k, the records that it wants, and those that the other wants.
-#[derive(Drop)]
+#[derive(Clone, Copy)]
 pub struct SharedOrder {
     pub s: usize,
     pub k: usize,

@@ -3,7 +3,7 @@ use layers::{Dark, LayerHead};
 use refusal::Refusal;
 
 // An accepted pack's numbers: its nodes, its replicas and the place of its first block.
-#[derive(Drop)]
+#[derive(Clone, Copy)]
 pub struct PackHead {
     pub n: usize,
     pub r: usize,
@@ -11,7 +11,7 @@ pub struct PackHead {
 }
 
 // What checking a pack gives: its numbers, or the refusal.
-#[derive(Drop)]
+#[derive(Clone, Copy)]
 pub enum PackAnswer {
     Accepted(PackHead),
     Refused(Refusal),
@@ -19,7 +19,7 @@ pub enum PackAnswer {
 
 // The answer, with mu and m of each layer below r, and the nodes out of service; entries from r on are 0. Beside a refusal all
 // are 0, and the list is empty.
-#[derive(Drop)]
+#[derive(Clone, Copy)]
 pub struct PackCheck {
     pub answer: PackAnswer,
     pub layers: [LayerHead; 5],

@@ -3,14 +3,14 @@ use layers::{Dark, LayerHead};
 use refusal::{Refusal, Verdict};
 
 // The rule of a layer's loss: one floor of document 01, or the nested floors of request (d).
-#[derive(Drop)]
+#[derive(Clone, Copy)]
 pub enum Rule {
     OneFloor,
     NestedFloors,
 }
 
 // The threshold s, the number of failures k and the number of records b: what a figure is taken for, and what is planned.
-#[derive(Drop)]
+#[derive(Clone, Copy)]
 pub struct Order {
     pub s: usize,
     pub k: usize,
@@ -18,7 +18,7 @@ pub struct Order {
 }
 
 // A placement's s, k, b and F, and the place where F starts.
-#[derive(Drop)]
+#[derive(Clone, Copy)]
 pub struct Terms {
     pub s: usize,
     pub k: usize,
@@ -28,7 +28,7 @@ pub struct Terms {
 }
 
 // What reading these numbers gives, with the next place; all numbers are 0 beside a refusal.
-#[derive(Drop)]
+#[derive(Clone, Copy)]
 pub struct TermsRead {
     pub verdict: Verdict,
     pub terms: Terms,
@@ -36,7 +36,7 @@ pub struct TermsRead {
 }
 
 // An accepted placement's numbers, and the place of its first row.
-#[derive(Drop)]
+#[derive(Clone, Copy)]
 pub struct PlacementHead {
     pub kind: usize,
     pub n: usize,
@@ -50,14 +50,14 @@ pub struct PlacementHead {
 
 // The feeders of a placement of kind 6: their number g, and the feeder of each node; entries past the nodes are 0, and all are 0
 // in a placement without feeders.
-#[derive(Drop)]
+#[derive(Clone, Copy)]
 pub struct FeederTable {
     pub number: usize,
     pub each: [u8; 255],
 }
 
 // What reading them gives, with the next place; all numbers are 0 beside a refusal.
-#[derive(Drop)]
+#[derive(Clone, Copy)]
 pub struct FeedersRead {
     pub verdict: Verdict,
     pub table: FeederTable,
@@ -65,14 +65,14 @@ pub struct FeedersRead {
 }
 
 // What checking a placement gives: its numbers, or the refusal.
-#[derive(Drop)]
+#[derive(Clone, Copy)]
 pub enum PlacementAnswer {
     Accepted(PlacementHead),
     Refused(Refusal),
 }
 
 // What checking the rows gives: good, with the feeders, or the refusal with none.
-#[derive(Drop)]
+#[derive(Clone, Copy)]
 pub struct RecordsCheck {
     pub verdict: Verdict,
     pub table: FeederTable,
@@ -80,7 +80,7 @@ pub struct RecordsCheck {
 
 // The answer, with lambda and c of each layer below s, the nodes out of service, and the feeders; entries from s on are 0. Beside a
 // refusal all are 0, and there is no node in the list and no feeder.
-#[derive(Drop)]
+#[derive(Clone, Copy)]
 pub struct PlacementCheck {
     pub answer: PlacementAnswer,
     pub layers: [LayerHead; 5],

@@ -13,7 +13,7 @@ use placement::{FeederTable, Order, PlacementAnswer, PlacementCheck, PlacementHe
 use refusal::{Refusal, Verdict};
 
 // What checking a placement gives, with the load of layer 0 beside an accepted one without feeders.
-#[derive(Drop)]
+#[derive(Clone, Copy)]
 pub struct LoadedCheck {
     pub check: PlacementCheck,
     pub load: usize,

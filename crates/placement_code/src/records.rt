@@ -12,7 +12,7 @@ use layers::{Base, LayerHead};
 use placement::{FeederTable, RecordsCheck, Terms};
 
 // What checking the records gives, with the load of layer 0 beside good ones without feeders.
-#[derive(Drop)]
+#[derive(Clone, Copy)]
 pub(crate) struct LoadedRecords {
     pub records: RecordsCheck,
     pub load: usize,

@@ -1,7 +1,7 @@
 // The refusals of document 01, one case for each row of its table, and of document 02's requests, with the place where it
 // varies.
 
-#[derive(Drop)]
+#[derive(Clone, Copy)]
 pub enum Refusal {
     // The input ends inside a number or before the last row's end: the input's length.
     Ended(usize),
@@ -48,14 +48,14 @@ pub enum Refusal {
 }
 
 // What a check says: all is good, or the refusal.
-#[derive(Drop)]
+#[derive(Clone, Copy)]
 pub enum Verdict {
     Good,
     Refused(Refusal),
 }
 
 // What a call that only writes answers: how many bytes or entries were written, or the refusal.
-#[derive(Drop)]
+#[derive(Clone, Copy)]
 pub enum Writing {
     Written(usize),
     Refused(Refusal),

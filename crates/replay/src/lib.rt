@@ -4,7 +4,7 @@ use packing::Node;
 use refusal::Refusal;
 
 // An event of a log: at a time, in 32-bit seconds, a node goes down or comes up.
-#[derive(Drop)]
+#[derive(Clone, Copy)]
 pub struct Event {
     pub time: u32,
     pub node: Node,
@@ -13,7 +13,7 @@ pub struct Event {
 
 // What a replay gives: the lowest number of usable records and the first event after which it stood; for an empty log the number
 // alone; or the refusal.
-#[derive(Drop)]
+#[derive(Clone, Copy)]
 pub enum Replayed {
     Lowest(usize, usize),
     Quiet(usize),
@@ -22,7 +22,7 @@ pub enum Replayed {
 
 // A replay between two events: the placement's n, s and b, the time of the event before, how many records are usable now, and the
 // answer of the log so far.
-#[derive(Drop)]
+#[derive(Clone, Copy)]
 pub struct Progress {
     pub n: usize,
     pub s: usize,

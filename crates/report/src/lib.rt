@@ -5,7 +5,7 @@ use refusal::Refusal;
 pub const LINE_NEEDED: usize = 200;
 
 // What `check` prints of an accepted placement: F, b, k, n, and the largest and the mean load of a node.
-#[derive(Drop)]
+#[derive(Clone, Copy)]
 pub struct Summary {
     pub figure: usize,
     pub b: usize,
@@ -16,7 +16,7 @@ pub struct Summary {
 }
 
 // What a reply gives: how many bytes were written, or the refusal of a lent slice that is too short.
-#[derive(Drop)]
+#[derive(Clone, Copy)]
 pub enum Reply {
     Written(usize),
     Refused(Refusal),

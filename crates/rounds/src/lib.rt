@@ -2,7 +2,7 @@
 use refusal::Refusal;
 
 // What the call answers: the usable records after the last cut where both sides play their best, or the refusal.
-#[derive(Drop)]
+#[derive(Clone, Copy)]
 pub enum RoundsAnswer {
     Usable(usize),
     Refused(Refusal),

@@ -3,7 +3,7 @@ ghost use Rattle.std.specs.Prelude.{◌*◌, ◌≤◌, length};
 ghost use Rattle.rows_load.specs.Counts.{Ordered};
 
 // What a pass over rows gives: whether all are in order, and, where they are, the largest number of them that hold one node.
-#[derive(Drop)]
+#[derive(Clone, Copy)]
 pub struct OrderedLoad {
     pub good: bool,
     pub load: usize,

@@ -1,7 +1,7 @@
 // Bare rows as text: what reading it means. The code is in rows_text_reader and rows_text_code.
 
 // The word that a line begins with; a line of a row has none.
-#[derive(Drop)]
+#[derive(Clone, Copy)]
 pub enum RowsWord {
     Rows,
     Out,

@@ -20,7 +20,7 @@ fn word_length(word: RowsWord) -> usize
 }
 
 // How many numbers a line has, which stand after those of the head, and which line it is.
-#[derive(Drop)]
+#[derive(Clone, Copy)]
 struct Found {
     count: usize,
     line: usize,

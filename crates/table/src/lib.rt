@@ -10,14 +10,14 @@ pub const PACK_MOST: usize = 21_760;
 pub const TABLE_MOST: usize = 90_112;
 
 // Why a text is refused: the refusal's number, and its place, which is a line, from 1.
-#[derive(Drop)]
+#[derive(Clone, Copy)]
 pub struct Fault {
     pub number: usize,
     pub place: usize,
 }
 
 // The word that a line begins with; a line of a block has none.
-#[derive(Drop)]
+#[derive(Clone, Copy)]
 pub enum Word {
     Table,
     Out,
@@ -26,7 +26,7 @@ pub enum Word {
 }
 
 // What reading a line's numbers gives: how many there are, or that the line can't be read.
-#[derive(Drop)]
+#[derive(Clone, Copy)]
 pub enum LineRead {
     Numbers(usize),
     Unreadable,
@@ -34,7 +34,7 @@ pub enum LineRead {
 
 // How far a table is read: n and r, 0 before they are read; how many numbers of the pack's head, layers, blocks and bytes of blocks
 // there are.
-#[derive(Drop)]
+#[derive(Clone, Copy)]
 pub struct Progress {
     pub n: usize,
     pub r: usize,
@@ -45,14 +45,14 @@ pub struct Progress {
 }
 
 // What a line adds: how far the table is read after it, or why it is refused.
-#[derive(Drop)]
+#[derive(Clone, Copy)]
 pub enum Added {
     To(Progress),
     Bad(Fault),
 }
 
 // What making a pack from a text gives: how many bytes it has, or why the text is refused.
-#[derive(Drop)]
+#[derive(Clone, Copy)]
 pub enum Packed {
     Bytes(usize),
     Bad(Fault),

@@ -1,7 +1,7 @@
 // What a program is given as text: the refusals of text, and the numbers that it takes before its file. The code is in text_code.
 
 // The refusals of text, with numbers from 22 on.
-#[derive(Drop)]
+#[derive(Clone, Copy)]
 pub enum TextRefusal {
     // More arguments than the program takes: how many it takes.
     Arguments(usize),
@@ -13,7 +13,7 @@ pub enum TextRefusal {
 
 // Where the numbers that a program takes end: the place of its file in the input; or the index of the first that can't be read;
 // or more arguments than numbers.
-#[derive(Drop)]
+#[derive(Clone, Copy)]
 pub enum GivenEnd {
     File(usize),
     Unread(usize),
@@ -21,7 +21,7 @@ pub enum GivenEnd {
 }
 
 // The numbers that a program takes before its file, and where they end; entries that it does not take are 0.
-#[derive(Drop)]
+#[derive(Clone, Copy)]
 pub struct Given {
     pub end: GivenEnd,
     pub values: [usize; 8],

@@ -18,7 +18,7 @@ use libc::STDIN_FILENO;
 // The head at the input's end.
 pub(crate) const END: usize = 256;
 
-#[derive(Drop)]
+#[derive(Clone, Copy)]
 pub(crate) struct Head {
     pub call: usize,
     pub kind: usize,
@@ -27,7 +27,7 @@ pub(crate) struct Head {
 }
 
 // The numbers that a head gives: a call's own, and those of the slices lent to it.
-#[derive(Drop)]
+#[derive(Clone, Copy)]
 pub(crate) struct Given {
     pub a: usize,
     pub b: usize,
@@ -42,7 +42,7 @@ pub(crate) struct Given {
 }
 
 // The part of the bytes that is the input.
-#[derive(Drop)]
+#[derive(Clone, Copy)]
 pub(crate) struct Part {
     pub from: usize,
     pub to: usize,

@@ -5,14 +5,14 @@ use walk::{Cursor, WalkOpened};
 use walk_code::Walk;
 
 // What opening a walk gives: the answer, and where the walk stands.
-#[derive(Drop)]
+#[derive(Clone, Copy)]
 struct Opening {
     answer: WalkOpened,
     place: Cursor,
 }
 
 // What a step gives: the row's bytes, 0 after them, how many there are, and where the walk stands after it.
-#[derive(Drop)]
+#[derive(Clone, Copy)]
 struct StepSeen {
     row: [u8; 5],
     length: usize,
@@ -20,7 +20,7 @@ struct StepSeen {
 }
 
 // How many rows were handed out, how many bytes they have together, and where the walk stands after them.
-#[derive(Drop)]
+#[derive(Clone, Copy)]
 struct WalkEnd {
     rows: usize,
     bytes: usize,

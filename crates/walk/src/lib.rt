@@ -2,7 +2,7 @@
 use refusal::Refusal;
 
 // A walk's place in the caller's bytes: the next row's start, a row's length, and how many rows are left.
-#[derive(Drop)]
+#[derive(Clone, Copy)]
 pub struct Cursor {
     pub at: usize,
     pub r: usize,
@@ -10,7 +10,7 @@ pub struct Cursor {
 }
 
 // What opening a walk gives: the place of the first row, or the checker's refusal.
-#[derive(Drop)]
+#[derive(Clone, Copy)]
 pub enum WalkOpened {
     Opened(Cursor),
     Refused(Refusal),

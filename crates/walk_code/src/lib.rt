@@ -9,7 +9,7 @@ pub use stepping::{Stepped, Walk, step};
 use walk::{Cursor, WalkOpened};
 
 // What opening a walk gives: the answer, and the walk, which is at its end beside a refusal.
-#[derive(Drop)]
+#[derive(Clone, Copy)]
 pub struct OpenedWalk<'a> {
     pub answer: WalkOpened,
     pub walk: Walk<'a>,

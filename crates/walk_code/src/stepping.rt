@@ -5,14 +5,14 @@ ghost use Rattle.walk.specs.RowWalk.{step_walk, RowPart};
 use walk::Cursor;
 
 // A row walk keeps the caller's bytes and its place in them.
-#[derive(Drop)]
+#[derive(Clone, Copy)]
 pub struct Walk<'a> {
     pub bytes: &'a [u8],
     pub place: Cursor,
 }
 
 // What a step gives: a row of the walk's bytes, empty at the end, and the walk after it.
-#[derive(Drop)]
+#[derive(Clone, Copy)]
 pub struct Stepped<'a> {
     pub row: &'a [u8],
     pub walk: Walk<'a>,

@@ -4,14 +4,14 @@ use packing::Node;
 use refusal::Refusal;
 
 // The fewest usable records over all sets of k nodes, or the refusal.
-#[derive(Drop)]
+#[derive(Clone, Copy)]
 pub enum WorstCase {
     Fewest(usize),
     Refused(Refusal),
 }
 
 // What rows are made of: nodes below n, r in each row.
-#[derive(Drop)]
+#[derive(Clone, Copy)]
 pub struct Shape {
     pub n: usize,
     pub r: usize,
@@ -20,7 +20,7 @@ pub struct Shape {
 // A search through the sets of k of n nodes: `chosen` nodes are chosen, and `next` is to be chosen or left. With those that are
 // chosen failed, `usable` records have fewer than s replicas on failed nodes; `least` is the fewest that a whole set has left so
 // far.
-#[derive(Drop)]
+#[derive(Clone, Copy)]
 pub struct Search {
     pub n: usize,
     pub k: usize,
@@ -32,7 +32,7 @@ pub struct Search {
 }
 
 // The entries of an index that name the records on one node.
-#[derive(Drop)]
+#[derive(Clone, Copy)]
 pub struct Entries {
     pub from: usize,
     pub count: usize,
