@@ -3,7 +3,7 @@
 use mathlib.Core.Path.{◌≡◌, refl}
 use mathlib.Core.Bool.{true}
 use borrow.Author.Rules.{rules}
-use Rattle.binomial_table.specs.declared.TheConstants.{BINOMIALS}
+use Rattle.binomial_table.specs.declared.table.TheConstants.{BINOMIALS}
 use Rattle.binomial_table.proofs.Pascal.{pascal-test, table-entry}
 use Rattle.binomial_table.proofs.binomial.Goals as goal
 
