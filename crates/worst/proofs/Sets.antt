@@ -61,7 +61,7 @@ within-below (suc m) v (w ∷ set) (inl h) =
     (omega (arith, h.0), rw e at (within-below m (suc v) set h.1))
 within-below (suc m) v (w ∷ set) (inr h) =
     let e : suc v + m ≡ v + suc m = omega arith in
-    rw e at (within-below m (suc v) (w ∷ set) h)
+    subst (λ n. All (λ u. u < n) (w ∷ set)) e (within-below m (suc v) (w ∷ set) h)
 
 -- ascending nodes below the last of all are such nodes
 pub ascending-within : (m v : ℕ) (set : List ℕ) → T (ascending v set) → All (λ w. w < v + m) set → Within (nodes_from v m) set
@@ -82,7 +82,7 @@ ascending-within (suc m) v (w ∷ set) a b =
         let above : suc v ≤ w = ltb-true v w q in
         inr
         (left (and_both (leb (suc v) w) (ascending (suc w) set) (le→leb (suc v) w above) (ascending-tail v w set a))
-        (rw e b))
+        (subst (λ n. All (λ u. u < n) (w ∷ set)) (sym e) b))
     go false q chosen left =
         let same : w ≡ v = omega (arith, ascending-head v w set a, ltb-false v w q) in
         inl (same, chosen (rw same at (ascending-tail v w set a)) (rw e b.1))
