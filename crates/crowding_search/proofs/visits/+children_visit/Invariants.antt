@@ -1,0 +1,23 @@
+-- What `crowding_search::visits::children` needs, where `visit` holds for smaller measures. Assumes nothing.
+-- What `crowding_search::visits::visit` needs, where `children` holds for smaller measures. Assumes nothing.
+use Prim.Native.Nat.{ℕ, ◌<◌, ◌+◌, ◌*◌}
+use Rattle.crowding.proofs.VisitChain.{row-some, chain-inside, chain-entries, visited-last, chain-to-count, visited-few, chain-to-link, visited-short, node-above, level-to-visit, visited-level}
+use Rattle.crowding.proofs.VisitLevel.{Visiting, visiting-start, visiting-end, visiting-skip, visiting-chain, visiting-next}
+use borrow.Author.Rules.{rules}
+use lib.ListN.{get_or}
+use native.Mathlib.Omega.{arith}
+use Rattle.crowding_search.proofs.visits.+children_visit.Given as goal
+
+abbrev pub invariant-children-loop-v : goal.invariant-children-loop-v
+invariant-children-loop-v l =
+    Visiting l.rows l.search l.heads l.counts l.initial.next l.initial.found l.next l.v l.found
+
+abbrev pub decreases-children-loop-v : goal.decreases-children-loop-v
+decreases-children-loop-v l = l.v
+
+-- a level below is one smaller, and a chain of a level comes before its level
+abbrev pub decreases-children : goal.decreases-children
+decreases-children l = 2 * l.search.level.w + 1
+
+abbrev pub decreases-visit : goal.decreases-visit
+decreases-visit l = 2 * l.search.level.w
