@@ -1,7 +1,8 @@
 #!/usr/bin/env python3
 """Brings the must-fail edits from the spelling of the older Rattle to today's.
 
-usage: python3 tools/port_edits.py COMMIT     at the top of a checkout; COMMIT is the last one in the old spelling
+usage: python3 tools/port_edits.py COMMIT           at the top of a checkout; COMMIT is the last one in the old spelling
+       python3 tools/port_edits.py COMMIT names     prints the dictionary
 
 The dictionary of names is learnt: each file of src/ and specs/ at COMMIT is set beside today's, token by token, and what stands in
 the place of a name is its new name. A text of an edit is turned by that dictionary and by the rules for projections, paths and
@@ -123,10 +124,13 @@ def imports(line):
 
 
 def main(argv):
+    if not argv or not os.path.isdir("crates"):
+        print("port_edits: give the commit, at the top of a checkout", file=sys.stderr)
+        return 2
     commit = argv[0]
     files = sorted(glob.glob("crates/*/src/**/*.rt", recursive=True) + glob.glob("crates/*/specs/**/*.antt", recursive=True))
     names = learn(commit, files)
-    if len(argv) > 1:
+    if "names" in argv:
         print(*sorted(f"{x} {y}" for x, y in names.items() if x != y), sep="\n")
         return 0
     left = turned = 0
@@ -138,8 +142,7 @@ def main(argv):
         file, comment, pairs = pairs_of(text)
         was, now = show(commit, f"{crate}/{file}"), read(f"{crate}/{file}")
         assert applied(was, pairs), path
-        is_code = file.endswith(".rt")
-        out, why, state, later = [], "", now, was
+        out, why, state = [], "", now
         for old, new in pairs:
             a, b = imports(old), imports(new)
             if a is not None and b is not None:
@@ -155,9 +158,8 @@ def main(argv):
                     out.append((head, head + "".join(it + ", " for it in add)))
                 elif add:
                     out.append((PRELUDE, PRELUDE + "".join(it + ", " for it in add)))
-                later = later.replace(old, new)
                 continue
-            turns = [(old, new)] if is_code else []
+            turns = [(old, new)] if file.endswith(".rt") else []
             turns.append((respelled(old, names), respelled(new, names)))
             found = next((t for t in turns if state.count(t[0]) == 1), None)
             if found is None:
@@ -166,7 +168,6 @@ def main(argv):
             if old in was and found[0] in now and not same_place(was, now, names, old, found[0]):
                 why = why or f"at another place: {found[0]}"
             state = state.replace(*found)
-            later = later.replace(old, new)
             out.append(found)
         if not why and applied(now, out) is None:
             why = "it does not apply"
