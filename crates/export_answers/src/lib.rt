@@ -1,7 +1,7 @@
 // Answers as numbers, put at the start of a slice that a caller lends.
 ghost use Rattle.std.specs.Prelude.{◌≡◌, ◌+◌, ◌≤◌, [], ◌∷◌, ◌++◌, length};
 ghost use Rattle.lists.specs.Lists.{over_start};
-ghost use Rattle.refusal.specs.Refusals.{result, refusal_outcome};
+ghost use Rattle.refusal.specs.Refusals.{result as result_of, refusal_outcome};
 ghost use Rattle.refusal.specs.Checked.{writing_outcome};
 ghost use Rattle.exports.specs.Exports.{Put};
 
@@ -10,7 +10,7 @@ use refusal::{Refusal, Writing};
 // Puts the numbers at the start of `answer`.
 pub fn put(answer: &mut [usize], numbers: &[usize])
     requires { length numbers.now ≤ length answer.old }
-    ensures* { λ _. ⌜ answer.new ≡ over_start numbers.now answer.old ⌝ }
+    ensures { answer.new ≡ over_start numbers.now answer.old }
 {
     let mut place: usize = 0;
     while place < numbers.len() {
@@ -21,7 +21,7 @@ pub fn put(answer: &mut [usize], numbers: &[usize])
 
 // A byte as a number.
 fn wide(byte: u8) -> usize
-    ensures* { λ n. ⌜ n ≡ byte ⌝ }
+    ensures { result ≡ byte }
 {
     byte as usize
 }
@@ -29,7 +29,7 @@ fn wide(byte: u8) -> usize
 // Puts bytes at the start of `answer`, as a number each.
 pub fn put_bytes(answer: &mut [usize], bytes: &[u8])
     requires { length bytes.now ≤ length answer.old }
-    ensures* { λ _. ⌜ answer.new ≡ over_start bytes.now answer.old ⌝ }
+    ensures { answer.new ≡ over_start bytes.now answer.old }
 {
     let mut place: usize = 0;
     while place < bytes.len() {
@@ -41,7 +41,7 @@ pub fn put_bytes(answer: &mut [usize], bytes: &[u8])
 // Puts numbers in two parts.
 pub fn put_two(answer: &mut [usize], first: &[usize], second: &[usize])
     requires { length first.now + length second.now ≤ length answer.old }
-    ensures* { λ _. ⌜ answer.new ≡ over_start (first.now ++ second.now) answer.old ⌝ }
+    ensures { answer.new ≡ over_start (first.now ++ second.now) answer.old }
 {
     put(answer, first);
     let at = first.len();
@@ -51,8 +51,7 @@ pub fn put_two(answer: &mut [usize], first: &[usize], second: &[usize])
 // Puts numbers in three parts.
 pub fn put_three(answer: &mut [usize], first: &[usize], second: &[usize], third: &[usize])
     requires { length first.now + length second.now + length third.now ≤ length answer.old }
-    ensures* { λ _.
-        ⌜ answer.new ≡ over_start (first.now ++ (second.now ++ third.now)) answer.old ⌝ }
+    ensures { answer.new ≡ over_start (first.now ++ (second.now ++ third.now)) answer.old }
 {
     put_two(answer, first, second);
     let at = first.len() + second.len();
@@ -62,7 +61,7 @@ pub fn put_three(answer: &mut [usize], first: &[usize], second: &[usize], third:
 // Puts a refusal's number and place; answers the number.
 pub fn refused(e: Refusal, answer: &mut [usize]) -> usize
     requires { 2 ≤ length answer.old }
-    ensures* { λ given. ⌜ Put (refusal_outcome e) answer.old answer.new given ⌝ }
+    ensures { Put (refusal_outcome e) answer.old answer.new result }
 {
     let number = refusal_code::number(e);
     let place = refusal_code::place(e);
@@ -73,7 +72,7 @@ pub fn refused(e: Refusal, answer: &mut [usize]) -> usize
 // Puts a result of one value; answers 0.
 pub fn value(v: usize, answer: &mut [usize]) -> usize
     requires { 2 ≤ length answer.old }
-    ensures* { λ given. ⌜ Put (result (v ∷ [])) answer.old answer.new given ⌝ }
+    ensures { Put (result_of (v ∷ [])) answer.old answer.new result }
 {
     put(answer, &[0, v]);
     0
@@ -82,7 +81,7 @@ pub fn value(v: usize, answer: &mut [usize]) -> usize
 // Puts what a call that only writes answers: how many bytes or entries, or the refusal.
 pub fn writing(wrote: Writing, answer: &mut [usize]) -> usize
     requires { 2 ≤ length answer.old }
-    ensures* { λ given. ⌜ Put (writing_outcome wrote) answer.old answer.new given ⌝ }
+    ensures { Put (writing_outcome wrote) answer.old answer.new result }
 {
     match wrote {
         Writing::Written(n) => value(n, answer),

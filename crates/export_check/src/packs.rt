@@ -1,6 +1,6 @@
 // What checking a pack answers, as numbers.
 ghost use Rattle.std.specs.Prelude.{◌≡◌, ◌≤◌, [], ◌∷◌, ◌++◌, length, take};
-ghost use Rattle.refusal.specs.Refusals.{result};
+ghost use Rattle.refusal.specs.Refusals.{result as result_of};
 ghost use Rattle.layers.specs.Layers.{head_numbers};
 ghost use Rattle.pack.specs.Answers.{pack_outcome};
 ghost use Rattle.exports.specs.Exports.{Put};
@@ -10,7 +10,7 @@ use pack::{PackAnswer, PackCheck, PackHead};
 
 // The numbers before the list: 0, n, r, the first block's place, mu and m of five layers, and how many nodes the list has.
 fn numbers_of(head: PackHead, l: [LayerHead; 5], count: usize) -> [usize; 15]
-    ensures* { λ numbers. ⌜ numbers ≡ 0 ∷ head.n ∷ head.r ∷ head.first ∷ (head_numbers l ++ (count ∷ [])) ⌝ }
+    ensures { result ≡ 0 ∷ head.n ∷ head.r ∷ head.first ∷ (head_numbers l ++ (count ∷ [])) }
 {
     let l0 = l[0];
     let l1 = l[1];
@@ -32,8 +32,8 @@ fn accepted(
     answer: &mut [usize],
 ) -> usize
     requires { (count ≤ 255) × (270 ≤ length answer.old) }
-    ensures* { λ given. ⌜ Put (result (head.n ∷ head.r ∷ head.first ∷ (head_numbers l ++ (count ∷ take count nodes))))
-        answer.old answer.new given ⌝ }
+    ensures { Put (result_of (head.n ∷ head.r ∷ head.first ∷ (head_numbers l ++ (count ∷ take count nodes))))
+        answer.old answer.new result }
 {
     let numbers = numbers_of(head, l, count);
     export_answers::put_two(answer, &numbers, &nodes[0..count]);
@@ -43,7 +43,7 @@ fn accepted(
 // Puts what checking a pack answers.
 pub(crate) fn tell_pack(check: PackCheck, answer: &mut [usize]) -> usize
     requires { (check.dark.count ≤ 255) × (270 ≤ length answer.old) }
-    ensures* { λ given. ⌜ Put (pack_outcome check) answer.old answer.new given ⌝ }
+    ensures { Put (pack_outcome check) answer.old answer.new result }
 {
     let says = check.answer;
     let l = check.layers;

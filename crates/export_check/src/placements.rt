@@ -1,7 +1,7 @@
 // What checking a placement answers, as numbers.
 ghost use Rattle.std.specs.Prelude.{◌≡◌, ◌+◌, ◌≤◌, [], ◌∷◌, ◌++◌, length, take};
 ghost use Rattle.lists.specs.Lists.{over_start};
-ghost use Rattle.refusal.specs.Refusals.{result};
+ghost use Rattle.refusal.specs.Refusals.{result as result_of};
 ghost use Rattle.placement.specs.Answers.{head_values, table_values, placement_outcome};
 ghost use Rattle.exports.specs.Exports.{Put};
 ghost use Rattle.export_check.specs.Fits.{CheckFits};
@@ -11,7 +11,7 @@ use placement::{FeederTable, PlacementAnswer, PlacementCheck, PlacementHead};
 
 // The numbers before the lists: 0, the eight of the head, lambda and c of five layers, and how many nodes are out of service.
 fn numbers_of(head: PlacementHead, l: [LayerHead; 5], count: usize) -> [usize; 20]
-    ensures* { λ numbers. ⌜ numbers ≡ 0 ∷ head_values head l (count ∷ []) [] ⌝ }
+    ensures { result ≡ 0 ∷ head_values head l (count ∷ []) [] }
 {
     let l0 = l[0];
     let l1 = l[1];
@@ -52,8 +52,8 @@ fn put_fed(
     answer: &mut [usize],
 )
     requires { (n ≤ 255) × (length numbers.now + length nodes.now + 1 + n ≤ length answer.old) }
-    ensures* { λ _. ⌜ answer.new ≡ over_start ((numbers.now ++ (nodes.now ++ (number ∷ []))) ++ take n each)
-        answer.old ⌝ }
+    ensures { answer.new ≡ over_start ((numbers.now ++ (nodes.now ++ (number ∷ []))) ++ take n each)
+        answer.old }
 {
     export_answers::put_three(answer, numbers, nodes, &[number]);
     let at = numbers.len() + nodes.len() + 1;
@@ -70,8 +70,8 @@ fn accepted(
     answer: &mut [usize],
 ) -> usize
     requires { (count ≤ 255) × (head.n ≤ 255) × (531 ≤ length answer.old) }
-    ensures* { λ given. ⌜ Put (result (head_values head l (count ∷ take count nodes) (table_values head.n table)))
-        answer.old answer.new given ⌝ }
+    ensures { Put (result_of (head_values head l (count ∷ take count nodes) (table_values head.n table)))
+        answer.old answer.new result }
 {
     let numbers = numbers_of(head, l, count);
     let number = table.number;
@@ -88,7 +88,7 @@ fn accepted(
 // Puts what checking a placement answers.
 pub(crate) fn tell_placement(check: PlacementCheck, answer: &mut [usize]) -> usize
     requires { CheckFits check × (531 ≤ length answer.old) }
-    ensures* { λ given. ⌜ Put (placement_outcome check) answer.old answer.new given ⌝ }
+    ensures { Put (placement_outcome check) answer.old answer.new result }
 {
     let says = check.answer;
     let l = check.layers;

@@ -1,6 +1,6 @@
 // Reading and writing a number, for C and Rust: a slice is a pointer and a length, the answer's numbers are put into the last one.
 ghost use Rattle.std.specs.Prelude.{◌≤◌, [], ◌∷◌, length};
-ghost use Rattle.refusal.specs.Refusals.{result};
+ghost use Rattle.refusal.specs.Refusals.{result as result_of};
 ghost use Rattle.number.specs.Numbers.{read_number, read_within, write_number};
 ghost use Rattle.number.specs.Answers.{number_read, read_outcome, written_outcome};
 ghost use Rattle.exports.specs.Exports.{Put, Told, fits};
@@ -12,7 +12,7 @@ use number::{NumberRead, NumberWritten};
 // Puts a number's value and the next place; answers 0.
 fn reading(value: usize, next: usize, answer: &mut [usize]) -> usize
     requires { 3 ≤ length answer.old }
-    ensures* { λ given. ⌜ Put (result (value ∷ next ∷ [])) answer.old answer.new given ⌝ }
+    ensures { Put (result_of (value ∷ next ∷ [])) answer.old answer.new result }
 {
     export_answers::put(answer, &[0, value, next]);
     0
@@ -21,7 +21,7 @@ fn reading(value: usize, next: usize, answer: &mut [usize]) -> usize
 // Puts what reading a number answers.
 fn tell_read(read: NumberRead, answer: &mut [usize]) -> usize
     requires { 3 ≤ length answer.old }
-    ensures* { λ given. ⌜ Put (read_outcome read) answer.old answer.new given ⌝ }
+    ensures { Put (read_outcome read) answer.old answer.new result }
 {
     match read {
         NumberRead::Value(number) => reading(number.value, number.next, answer),
@@ -32,8 +32,8 @@ fn tell_read(read: NumberRead, answer: &mut [usize]) -> usize
 // Reads a number: `number_code::read_number`. The answer has 3 numbers: 0, the value and the next place.
 #[unsafe(no_mangle)]
 pub extern "C" fn musseltwig_read_number(bytes: &[u8], at: usize, answer: &mut [usize]) -> usize
-    ensures* { λ given. ⌜ Told (fits 3 answer.old) (read_outcome (number_read (read_number bytes.now at)))
-        answer.old answer.new given ⌝ }
+    ensures { Told (fits 3 answer.old) (read_outcome (number_read (read_number bytes.now at)))
+        answer.old answer.new result }
 {
     if answer.len() < 3 {
         return BAD_LENGTH;
@@ -51,8 +51,8 @@ pub extern "C" fn musseltwig_read_within(
     hi: usize,
     answer: &mut [usize],
 ) -> usize
-    ensures* { λ given. ⌜ Told (fits 3 answer.old) (read_outcome (number_read (read_within lo hi bytes.now at)))
-        answer.old answer.new given ⌝ }
+    ensures { Told (fits 3 answer.old) (read_outcome (number_read (read_within lo hi bytes.now at)))
+        answer.old answer.new result }
 {
     if answer.len() < 3 {
         return BAD_LENGTH;
@@ -64,7 +64,7 @@ pub extern "C" fn musseltwig_read_within(
 // Puts how many bytes were written, or the refusal.
 fn tell_written(wrote: NumberWritten, answer: &mut [usize]) -> usize
     requires { 2 ≤ length answer.old }
-    ensures* { λ given. ⌜ Put (written_outcome wrote) answer.old answer.new given ⌝ }
+    ensures { Put (written_outcome wrote) answer.old answer.new result }
 {
     match wrote {
         NumberWritten::Written(n) => export_answers::value(n, answer),
@@ -79,8 +79,8 @@ pub extern "C" fn musseltwig_write_number(
     value: usize,
     answer: &mut [usize],
 ) -> usize
-    ensures* { λ given. ⌜ NumberExported (write_number (length out.old) value)
-        out.old out.new answer.old answer.new given ⌝ }
+    ensures { NumberExported (write_number (length out.old) value)
+        out.old out.new answer.old answer.new result }
 {
     if answer.len() < 2 {
         return BAD_LENGTH;

@@ -2,7 +2,7 @@
 mod events;
 
 ghost use Rattle.std.specs.Prelude.{◌≤◌, [], ◌∷◌, length};
-ghost use Rattle.refusal.specs.Refusals.{result};
+ghost use Rattle.refusal.specs.Refusals.{result as result_of};
 ghost use Rattle.replay.specs.Replays.{check_replay};
 ghost use Rattle.replay.specs.Answers.{replay_answer, replay_outcome};
 ghost use Rattle.exports.specs.Exports.{Put, Told};
@@ -14,7 +14,7 @@ use replay::Replayed;
 // Puts the lowest number and its event; answers 0.
 fn lowest(number: usize, event: usize, answer: &mut [usize]) -> usize
     requires { 3 ≤ length answer.old }
-    ensures* { λ given. ⌜ Put (result (number ∷ event ∷ [])) answer.old answer.new given ⌝ }
+    ensures { Put (result_of (number ∷ event ∷ [])) answer.old answer.new result }
 {
     export_answers::put(answer, &[0, number, event]);
     0
@@ -23,7 +23,7 @@ fn lowest(number: usize, event: usize, answer: &mut [usize]) -> usize
 // Puts what a replay answers.
 fn tell_replayed(replayed: Replayed, answer: &mut [usize]) -> usize
     requires { 3 ≤ length answer.old }
-    ensures* { λ given. ⌜ Put (replay_outcome replayed) answer.old answer.new given ⌝ }
+    ensures { Put (replay_outcome replayed) answer.old answer.new result }
 {
     match replayed {
         Replayed::Lowest(number, event) => lowest(number, event, answer),
@@ -42,10 +42,10 @@ pub extern "C" fn musseltwig_replay(
     downs: &[u8],
     answer: &mut [usize],
 ) -> usize
-    ensures* { λ given. ⌜ Told (replay_stated times.now nodes.now downs.now answer.old)
+    ensures { Told (replay_stated times.now nodes.now downs.now answer.old)
         (replay_outcome (replay_answer
         (check_replay placement.now (events_of times.now nodes.now downs.now))))
-        answer.old answer.new given ⌝ }
+        answer.old answer.new result }
 {
     if answer.len() < 3 {
         return BAD_LENGTH;

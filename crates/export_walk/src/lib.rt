@@ -1,6 +1,6 @@
 // The row walk by a place, for C and Rust: a slice is a pointer and a length, the answer's numbers are put into the last one.
 ghost use Rattle.std.specs.Prelude.{◌≡◌, ◌≤◌, length};
-ghost use Rattle.refusal.specs.Refusals.{result};
+ghost use Rattle.refusal.specs.Refusals.{result as result_of};
 ghost use Rattle.walk.specs.declared.WalkOpened.TheVariants.{Opened};
 ghost use Rattle.walk.specs.RowWalk.{open_walk, walk_opened, walk_outcome, row_start};
 ghost use Rattle.exports.specs.Exports.{Put, Told, fits};
@@ -12,7 +12,7 @@ use walk::{Cursor, WalkOpened};
 // Puts where a walk stands; answers 0.
 fn opened_at(at: usize, r: usize, left: usize, answer: &mut [usize]) -> usize
     requires { 4 ≤ length answer.old }
-    ensures* { λ given. ⌜ Put (walk_outcome (Opened (record { at = at; r = r; left = left }))) answer.old answer.new given ⌝ }
+    ensures { Put (walk_outcome (Opened (record { at = at; r = r; left = left }))) answer.old answer.new result }
 {
     export_answers::put(answer, &[0, at, r, left]);
     0
@@ -21,7 +21,7 @@ fn opened_at(at: usize, r: usize, left: usize, answer: &mut [usize]) -> usize
 // Puts what opening a walk answers.
 fn tell_opened(opened: WalkOpened, answer: &mut [usize]) -> usize
     requires { 4 ≤ length answer.old }
-    ensures* { λ given. ⌜ Put (walk_outcome opened) answer.old answer.new given ⌝ }
+    ensures { Put (walk_outcome opened) answer.old answer.new result }
 {
     match opened {
         WalkOpened::Opened(place) => opened_at(place.at, place.r, place.left, answer),
@@ -32,8 +32,8 @@ fn tell_opened(opened: WalkOpened, answer: &mut [usize]) -> usize
 // Opens a row walk: `walk_code::opened`. The answer has 4 numbers: 0, the first row's place, r and b, which a step takes.
 #[unsafe(no_mangle)]
 pub extern "C" fn musseltwig_open_walk(placement: &[u8], answer: &mut [usize]) -> usize
-    ensures* { λ given. ⌜ Told (fits 4 answer.old) (walk_outcome (walk_opened (open_walk placement.now)))
-        answer.old answer.new given ⌝ }
+    ensures { Told (fits 4 answer.old) (walk_outcome (walk_opened (open_walk placement.now)))
+        answer.old answer.new result }
 {
     if answer.len() < 4 {
         return BAD_LENGTH;
@@ -44,7 +44,7 @@ pub extern "C" fn musseltwig_open_walk(placement: &[u8], answer: &mut [usize]) -
 
 // Where the next row begins, 0 at the end.
 fn start_of(bytes: &[u8], place: Cursor) -> usize
-    ensures* { λ start. ⌜ start ≡ row_start bytes.now place ⌝ }
+    ensures { result ≡ row_start bytes.now place }
 {
     if walk_rows::has_row(bytes, place) {
         place.at
@@ -63,9 +63,9 @@ pub extern "C" fn musseltwig_step(
     left: usize,
     answer: &mut [usize],
 ) -> usize
-    ensures* { λ given. ⌜ Told (fits 6 answer.old)
-        (result (step_values placement.now (record { at = at; r = r; left = left })))
-        answer.old answer.new given ⌝ }
+    ensures { Told (fits 6 answer.old)
+        (result_of (step_values placement.now (record { at = at; r = r; left = left })))
+        answer.old answer.new result }
 {
     if answer.len() < 6 {
         return BAD_LENGTH;

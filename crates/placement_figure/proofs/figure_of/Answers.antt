@@ -1,3 +1,4 @@
+use Rattle.placement.specs.Figure.{loss, lost_by}
 use Prim.Native.Nat.{◌+◌, ◌-◌, ◌≤◌}
 use native.Mathlib.Omega.{arith}
 use lib.ListN.{length}
@@ -17,6 +18,7 @@ overflow_add-lost c =
     omega (arith, c.requires.s_bound, lost-le-sizes _ _ _ _ _ _ ((let again-here : LossTurn c.args.rule c.args.order.s c.args.order.k c.args.layers (c.loop-x.lost + c.loss_of-lost.result) (c.loop-x.x + 1) = loss-again _ _ _ _ _ _ c.loop-x.invariant c.loop-x-test.true ((let held-here : c.args.order.s ≤ length c.args.layers = omega (arith, c.requires.s_bound.0) in held-here)) c.loss_of-lost.ensures in again-here)))
 
 pub loop-x-preserved : goal.loop-x-preserved
+unfolding lost_by loss
 loop-x-preserved c = (let again-here : LossTurn c.args.rule c.args.order.s c.args.order.k c.args.layers (c.loop-x.lost + c.loss_of-lost.result) (c.loop-x.x + 1) = loss-again _ _ _ _ _ _ c.loop-x.invariant c.loop-x-test.true ((let held-here : c.args.order.s ≤ length c.args.layers = omega (arith, c.requires.s_bound.0) in held-here)) c.loss_of-lost.ensures in again-here)
 
 pub overflow_sub-result : goal.overflow_sub-result
