@@ -1,4 +1,6 @@
 // Asking: the figure, the counts and the copies that planning would write.
+#![tactic(auto)]
+
 ghost use Rattle.std.specs.Prelude.{◌≡◌, map, length};
 ghost use Rattle.lists.specs.Lists.{up_to};
 ghost use Rattle.refusal.specs.Checked.{accepted, refused};

@@ -1,5 +1,7 @@
 // `ask`: takes s, k and b, then a pack on standard input, and prints the figure, the counts and the copies that planning would take.
 // No byte after the first 32,768 of standard input changes what is written.
+#![tactic(auto)]
+
 ghost use Rattle.std.specs.Prelude.{◌≤◌, length};
 ghost use Rattle.report.specs.Replies.{Replied};
 ghost use Rattle.call_replies.specs.Committing.{ask_reply, ask_needed};

@@ -1,4 +1,6 @@
 // Binomial coefficients from one constant table, whose rule is tested over the whole table once (proofs/Pascal.antt).
+#![tactic(auto)]
+
 ghost use Rattle.std.specs.Prelude.{◌≡◌, ◌<◌};
 ghost use Rattle.binomial.specs.Choose.{choose};
 

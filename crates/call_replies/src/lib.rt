@@ -1,4 +1,5 @@
 // What the programs of document 02's calls print: definitions and laws. The code is in the crates reply_*.
+#![tactic(auto)]
 
 // The bytes that `curve` asks for: every reply is shorter.
 pub const CURVE_NEEDED: usize = 10_668;

@@ -1,4 +1,6 @@
 // Certifying rows that somebody else placed: what reading a file of bare rows gives, and the layers to choose from.
+#![tactic(auto)]
+
 use layers::Base;
 use placement::Order;
 use refusal::Verdict;

@@ -1,4 +1,6 @@
 // Certifying rows that somebody else placed.
+#![tactic(auto)]
+
 ghost use Rattle.std.specs.Prelude.{◌≡◌, ◌≤◌, ◌<◌, length};
 ghost use Rattle.refusal.specs.Checked.{accepted, refused};
 ghost use Rattle.packing.specs.Rows.{rows_at};

@@ -1,5 +1,7 @@
 // `certify`: reads bare rows on standard input, and writes the placement that certifies them, or the line of the refusal.
 // No byte after the first 32,768 of standard input changes what is written.
+#![tactic(auto)]
+
 ghost use Rattle.std.specs.Prelude.{◌≤◌, length};
 ghost use Rattle.planner.specs.Planning.{output_most};
 ghost use Rattle.report.specs.Replies.{Replied};

@@ -1,4 +1,6 @@
 // The largest number of rows that hold one set of nodes, and the layer with the highest figure.
+#![tactic(auto)]
+
 mod most;
 
 ghost use Rattle.std.specs.Prelude.{◌≡◌, cond, ◌<◌, leb};

@@ -1,4 +1,6 @@
 // Reading a file of bare rows.
+#![tactic(auto)]
+
 mod order;
 mod start;
 

@@ -1,5 +1,7 @@
 // `check`: reads a placement on standard input and prints its line, or the line of its refusal. No byte after the first
 // 32,768 changes what is printed.
+#![tactic(auto)]
+
 ghost use Rattle.std.specs.Prelude.{◌≤◌, length};
 ghost use Rattle.report.specs.Programs.{check_line};
 ghost use Rattle.report.specs.Replies.{line_needed, Replied};

@@ -1,4 +1,6 @@
 // Seeing a plan before anything is written, and committing the counts of any split.
+#![tactic(auto)]
+
 use refusal::Refusal;
 
 // What asking gives: the figure of the split that planning would write, or the refusal.

@@ -1,4 +1,6 @@
 // Committing: writing the placement of the split with the counts that a caller hands over.
+#![tactic(auto)]
+
 mod counts;
 
 ghost use Rattle.std.specs.Prelude.{◌≡◌, length};

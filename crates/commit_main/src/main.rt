@@ -1,5 +1,7 @@
 // `commit`: takes s, k, b and five counts, then a pack on standard input, and writes the placement of that split.
 // No byte after the first 32,768 of standard input changes what is written.
+#![tactic(auto)]
+
 ghost use Rattle.std.specs.Prelude.{◌≤◌, length};
 ghost use Rattle.planner.specs.Planning.{output_most};
 ghost use Rattle.report.specs.Replies.{Replied};

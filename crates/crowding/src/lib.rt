@@ -1,4 +1,6 @@
 // What a search for crowded sets carries from function to function.
+#![tactic(auto)]
+
 use packing::Node;
 
 // The positions from `from` to `to`: places of bytes in the rows.

@@ -1,4 +1,6 @@
 // Chains of positions, one for each node: how they are linked.
+#![tactic(auto)]
+
 mod linking;
 mod rows;
 mod tails;

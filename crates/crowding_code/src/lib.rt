@@ -1,4 +1,6 @@
 // The packing test on rows in bytes: of one layer, and layer by layer (`packings`).
+#![tactic(auto)]
+
 mod load;
 mod packings;
 mod place;

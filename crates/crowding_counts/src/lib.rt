@@ -1,4 +1,6 @@
 // Counting the nodes of rows, for the last node of a set.
+#![tactic(auto)]
+
 ghost use Rattle.std.specs.Prelude.{◌≡◌, length};
 ghost use Rattle.crowding.specs.Chains.{AtMost, largest_after, most_after, positions, tails_at};
 ghost use Rattle.crowding.specs.Counting.{ChainToCount, SpanToCount, SpanCounted};

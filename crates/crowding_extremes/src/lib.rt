@@ -1,4 +1,6 @@
 // The highest node of rows, and the least row number of a chain.
+#![tactic(auto)]
+
 ghost use Rattle.std.specs.Prelude.{◌≡◌, max, ◌<◌, length};
 ghost use Rattle.lists.specs.Lists.{All, largest};
 ghost use Rattle.crowding.specs.Chains.{lowest_at, positions};

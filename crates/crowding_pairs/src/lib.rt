@@ -1,4 +1,6 @@
 // Pairs of nodes counted in a table, a cell for each pair.
+#![tactic(auto)]
+
 mod count;
 mod rows;
 

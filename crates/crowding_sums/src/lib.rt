@@ -1,4 +1,6 @@
 // Rows that may hold a crowded set, told by the sums of the nodes' weights.
+#![tactic(auto)]
+
 mod count;
 mod most;
 mod rows;

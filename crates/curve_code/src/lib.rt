@@ -1,4 +1,6 @@
 // The curve of a placement: its figure for every number of failures.
+#![tactic(auto)]
+
 ghost use Rattle.std.specs.Prelude.{◌≡◌, length};
 ghost use Rattle.refusal.specs.Checked.{WritingDone};
 ghost use Rattle.placement.specs.Answers.{units_by};

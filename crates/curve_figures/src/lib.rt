@@ -1,4 +1,6 @@
 // The figures for every number of failures.
+#![tactic(auto)]
+
 mod binomials;
 mod figures;
 

@@ -1,5 +1,7 @@
 // `curve`: reads a placement on standard input and prints a line with k and the figure for each number k of failures.
 // No byte after the first 32,768 of standard input changes what is written.
+#![tactic(auto)]
+
 ghost use Rattle.std.specs.Prelude.{◌≤◌, length};
 ghost use Rattle.report.specs.Replies.{Replied};
 ghost use Rattle.call_replies.specs.Curve.{curve_reply, curve_needed};

@@ -1,4 +1,6 @@
 // Nodes out of service: reading their list, and the first row that names one.
+#![tactic(auto)]
+
 mod list;
 mod naming;
 

@@ -1,4 +1,6 @@
 // What is made of a text's draft, of a table and of bare rows alike: its bytes, the line of a place, and the line that tells a fault.
+#![tactic(auto)]
+
 ghost use Rattle.std.specs.Prelude.{◌≡◌, ◌+◌, ◌-◌, ◌/◌, ◌≤◌, ◌<◌, ◌++◌, length, get_or};
 ghost use Rattle.lists.specs.Lists.{All, over_start};
 ghost use Rattle.number.specs.Numbers.{largest_number, forms_of};

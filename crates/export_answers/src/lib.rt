@@ -1,4 +1,6 @@
 // Answers as numbers, put at the start of a slice that a caller lends.
+#![tactic(auto)]
+
 ghost use Rattle.std.specs.Prelude.{◌≡◌, ◌+◌, ◌≤◌, [], ◌∷◌, ◌++◌, length};
 ghost use Rattle.lists.specs.Lists.{over_start};
 ghost use Rattle.refusal.specs.Refusals.{result as result_of, refusal_outcome};

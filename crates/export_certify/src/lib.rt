@@ -1,4 +1,6 @@
 // Certifying, for C and Rust: a slice is a pointer and a length, the answer's numbers are put into the last one.
+#![tactic(auto)]
+
 ghost use Rattle.std.specs.Prelude.{length};
 ghost use Rattle.certify.specs.Certify.{certify as certify_of};
 ghost use Rattle.export_plan.specs.Exported.{CommitExported};

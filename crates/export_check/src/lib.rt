@@ -1,4 +1,6 @@
 // Checking packs and placements, for C and Rust: a slice is a pointer and a length, the answer's numbers are put into the last one.
+#![tactic(auto)]
+
 mod packs;
 mod placements;
 

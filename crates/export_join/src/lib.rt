@@ -1,4 +1,6 @@
 // Joining packs, for C and Rust: a slice is a pointer and a length, the answer's numbers are put into the last one.
+#![tactic(auto)]
+
 ghost use Rattle.std.specs.Prelude.{◌≤◌, [], ◌∷◌, length};
 ghost use Rattle.join.specs.Join.{join as join_of};
 ghost use Rattle.join.specs.Answers.{join_outcome};

@@ -1,4 +1,6 @@
 // The calls on a placement, for C and Rust: a slice is a pointer and a length, the answer's numbers are put into the last one.
+#![tactic(auto)]
+
 ghost use Rattle.std.specs.Prelude.{length, ◌≤◌};
 ghost use Rattle.exports.specs.Exports.{Put, Told, fits, WritingExported};
 ghost use Rattle.curve.specs.Curve.{check_curve};

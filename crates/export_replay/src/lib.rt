@@ -1,4 +1,6 @@
 // Replaying an outage log, for C and Rust: the events stand in three plain slices, and nothing bounds their number.
+#![tactic(auto)]
+
 mod events;
 
 ghost use Rattle.std.specs.Prelude.{◌≤◌, [], ◌∷◌, length};

@@ -1,4 +1,6 @@
 // The certificate line, for C and Rust: a slice is a pointer and a length, the answer's numbers are put into the last one.
+#![tactic(auto)]
+
 ghost use Rattle.std.specs.Prelude.{◌≤◌, length};
 ghost use Rattle.report.specs.Replies.{check_into};
 ghost use Rattle.report.specs.Answers.{reply_outcome};

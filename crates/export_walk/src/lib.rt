@@ -1,4 +1,6 @@
 // The row walk by a place, for C and Rust: a slice is a pointer and a length, the answer's numbers are put into the last one.
+#![tactic(auto)]
+
 ghost use Rattle.std.specs.Prelude.{◌≡◌, ◌≤◌, length};
 ghost use Rattle.refusal.specs.Refusals.{result as result_of};
 ghost use Rattle.walk.specs.declared.WalkOpened.TheVariants.{Opened};

@@ -1,4 +1,6 @@
 // Feeders: reading the numbers after the rows, and rows of feeders in place of nodes.
+#![tactic(auto)]
+
 mod list;
 mod rows;
 

@@ -1,4 +1,6 @@
 // The feeders of all rows: refusals 21 and 7.
+#![tactic(auto)]
+
 mod units;
 
 ghost use Rattle.std.specs.Prelude.{◌≡◌, ◌+◌, ◌*◌, ◌≤◌, ◌<◌, length, take, drop};

@@ -1,4 +1,6 @@
 // What joining packs gives, and what its code goes by.
+#![tactic(auto)]
+
 use layers::{Dark, LayerHead};
 use refusal::Refusal;
 

@@ -1,5 +1,7 @@
 // Joins three packs, for the benchmark. Reads the lengths of the first two as numbers, then the packs one after another on standard
 // input, and writes the joined pack, or the line of the refusal; nothing where the lengths can't be read.
+#![tactic(auto)]
+
 use join::Joined;
 use libc::{STDIN_FILENO, STDOUT_FILENO};
 use number::NumberRead;

@@ -1,4 +1,6 @@
 // Joining packs: checked in order, then joined layer by layer into one.
+#![tactic(auto)]
+
 ghost use Rattle.std.specs.Prelude.{◌≡◌, ◌≤◌, [], ◌∷◌, length, take};
 ghost use Rattle.pack.specs.Answers.{pack_checked};
 ghost use Rattle.join.specs.Join.{join_packs, join as join_of};

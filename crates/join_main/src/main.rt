@@ -1,5 +1,7 @@
 // `join`: joins the packs in the one, two or three files that its arguments name, or the one on standard input where none is named, and
 // writes the joined pack, or the line of the refusal. No byte of a file after the first 32,768 changes what is written.
+#![tactic(auto)]
+
 ghost use Rattle.std.specs.Prelude.{◌≤◌, length};
 ghost use Rattle.io.specs.Counts.{IsPrefixLen};
 ghost use Rattle.planner.specs.Planning.{output_most};

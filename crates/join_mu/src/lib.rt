@@ -1,4 +1,6 @@
 // The joined mu's and m's of each layer.
+#![tactic(auto)]
+
 ghost use Rattle.std.specs.Prelude.{◌≡◌, ◌≤◌, ◌<◌, min, [], ◌∷◌};
 ghost use Rattle.join.specs.Lcm.{lcm};
 ghost use Rattle.join.specs.Join.{with_mu};

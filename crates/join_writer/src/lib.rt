@@ -1,4 +1,6 @@
 // Writing the joined pack: its head, then the joined layers' rows.
+#![tactic(auto)]
+
 mod head;
 mod list;
 mod rows;

@@ -1,4 +1,6 @@
 // What packs and placements share: what reading their heads and checking their rows gives.
+#![tactic(auto)]
+
 use refusal::Verdict;
 
 // Which file is read: each has its own first numbers.

@@ -1,4 +1,6 @@
 // Reading a file's kind, n, r and the nodes out of service.
+#![tactic(auto)]
+
 ghost use Rattle.std.specs.Prelude.{◌≡◌};
 ghost use Rattle.refusal.specs.Checked.{refused};
 ghost use Rattle.number.specs.Answers.{number_read};

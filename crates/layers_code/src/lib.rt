@@ -1,5 +1,7 @@
 // Checking the rows of all layers, in steps: their length, their end, their order, the nodes out of service and the packing
 // test.
+#![tactic(auto)]
+
 mod ascending;
 mod service;
 

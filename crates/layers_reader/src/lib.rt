@@ -1,4 +1,6 @@
 // Reading the two numbers of each layer.
+#![tactic(auto)]
+
 ghost use Rattle.std.specs.Prelude.{◌≡◌, ◌≤◌};
 ghost use Rattle.refusal.specs.Checked.{refused};
 ghost use Rattle.layers.specs.Layers.{least_size, read_layers};

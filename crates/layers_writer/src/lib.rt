@@ -1,4 +1,6 @@
 // Writing what a file with a list of nodes begins with: the kind, n, r and the nodes out of service.
+#![tactic(auto)]
+
 ghost use Rattle.std.specs.Prelude.{◌≡◌, ◌≤◌, length, take};
 ghost use Rattle.lists.specs.Lists.{All, over_start};
 ghost use Rattle.number.specs.Numbers.{largest_number, forms_of};

@@ -1,5 +1,7 @@
 // `listing`: reads a file of bare rows on standard input and prints it as text, or the line of its refusal. No byte after the first 32,768
 // changes what is printed.
+#![tactic(auto)]
+
 ghost use Rattle.std.specs.Prelude.{◌≤◌, length};
 ghost use Rattle.report.specs.Replies.{Replied};
 ghost use Rattle.table.specs.Printing.{table_most};

@@ -1,4 +1,6 @@
 // An outage log as text: definitions and laws, and what reading it gives. The code is in logs_code.
+#![tactic(auto)]
+
 use replay::Event;
 use text::TextRefusal;
 

@@ -1,4 +1,6 @@
 // An outage log as text, read line after line.
+#![tactic(auto)]
+
 mod lines;
 mod reader;
 mod words;

@@ -1,4 +1,6 @@
 // Reading numbers of one to four groups of seven bits.
+#![tactic(auto)]
+
 mod reader;
 mod within;
 

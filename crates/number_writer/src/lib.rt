@@ -1,4 +1,6 @@
 // Writing numbers of one to four groups of seven bits.
+#![tactic(auto)]
+
 mod numbers;
 mod writer;
 

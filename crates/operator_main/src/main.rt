@@ -1,5 +1,7 @@
 // `operator`: takes s, k, one operator's wish and the other's, then a pack on standard input, and writes that operator's placement.
 // No byte after the first 32,768 of standard input changes what is written.
+#![tactic(auto)]
+
 ghost use Rattle.std.specs.Prelude.{◌≤◌, length};
 ghost use Rattle.planner.specs.Planning.{output_most};
 ghost use Rattle.report.specs.Replies.{Replied};

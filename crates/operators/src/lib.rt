@@ -1,4 +1,5 @@
 // Two operators who keep records on the same nodes.
+#![tactic(auto)]
 
 // One operator's order: s and k, the records that it wants, and those that the other wants.
 #[derive(Clone, Copy)]

@@ -1,4 +1,6 @@
 // Planning for one of two operators who share the records.
+#![tactic(auto)]
+
 ghost use Rattle.std.specs.Prelude.{◌≡◌, ◌≤◌, length};
 ghost use Rattle.refusal.specs.Checked.{refused};
 ghost use Rattle.refusal.specs.declared.Refusal.TheVariants.{BadWish};

@@ -1,4 +1,6 @@
 // What checking a pack gives.
+#![tactic(auto)]
+
 use layers::{Dark, LayerHead};
 use refusal::Refusal;
 

@@ -1,4 +1,6 @@
 // Checking packs.
+#![tactic(auto)]
+
 ghost use Rattle.std.specs.Prelude.{◌≡◌};
 ghost use Rattle.refusal.specs.Checked.{refused};
 ghost use Rattle.pack.specs.Pack.{read_pack};

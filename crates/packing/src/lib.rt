@@ -1,4 +1,5 @@
 // Nodes, records and rows.
+#![tactic(auto)]
 
 // A node's number. Document 01, "Terms": a node number is never taken where a record number is due, nor the reverse.
 #[derive(Clone, Copy)]

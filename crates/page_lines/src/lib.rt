@@ -1,4 +1,6 @@
 // The lines of the cabinet page, put into a slice that a caller lends.
+#![tactic(auto)]
+
 mod fields;
 mod lines;
 

@@ -1,5 +1,7 @@
 // `page`: reads a placement on standard input and prints the page that crews pin inside a cabinet's door.
 // No byte after the first 32,768 of standard input changes what is written.
+#![tactic(auto)]
+
 ghost use Rattle.std.specs.Prelude.{◌≤◌, length};
 ghost use Rattle.report.specs.Replies.{Replied};
 ghost use Rattle.call_replies.specs.Page.{page_reply, page_needed};

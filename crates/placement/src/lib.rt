@@ -1,4 +1,6 @@
 // What checking a placement gives.
+#![tactic(auto)]
+
 use layers::{Dark, LayerHead};
 use refusal::{Refusal, Verdict};
 

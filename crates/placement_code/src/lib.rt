@@ -1,4 +1,6 @@
 // Checking placements.
+#![tactic(auto)]
+
 mod fed;
 mod records;
 

@@ -1,4 +1,6 @@
 // The survivor figure.
+#![tactic(auto)]
+
 ghost use Rattle.std.specs.Prelude.{◌≡◌, ◌≤◌, ◌<◌, take};
 ghost use Rattle.lists.specs.Lists.{All};
 ghost use Rattle.packing.specs.Floors.{floors_down};

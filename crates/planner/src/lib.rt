@@ -1,4 +1,6 @@
 // What planning gives: the placement that document 01 names, or a refusal.
+#![tactic(auto)]
+
 use refusal::Refusal;
 
 // What planning gives: the placement's length in bytes and its figure, or the refusal.

@@ -1,4 +1,6 @@
 // Planning: from a pack and an order of b records to the placement that document 01 names.
+#![tactic(auto)]
+
 ghost use Rattle.std.specs.Prelude.{◌≡◌, length};
 ghost use Rattle.refusal.specs.Checked.{accepted, refused};
 ghost use Rattle.planner.specs.Planning.{Fits, named_placement, plan_pack, plan as plan_of};

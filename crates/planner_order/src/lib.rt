@@ -1,4 +1,6 @@
 // The checks before planning, one each for refusals 12, 9, 10 and 11.
+#![tactic(auto)]
+
 ghost use Rattle.std.specs.Prelude.{◌≡◌, ◌≤◌};
 ghost use Rattle.refusal.specs.Checked.{verdict};
 ghost use Rattle.planner.specs.Planning.{check_order, check_blocks, check_work, check_output};

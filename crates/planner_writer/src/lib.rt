@@ -1,4 +1,6 @@
 // Writing a split's placement: the head, then each layer's rows.
+#![tactic(auto)]
+
 mod head;
 mod rows;
 mod shares;

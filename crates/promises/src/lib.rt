@@ -1,1 +1,2 @@
 // The promises: theorems alone, no code.
+#![tactic(auto)]

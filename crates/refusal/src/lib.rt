@@ -1,5 +1,6 @@
 // The refusals of document 01, one case for each row of its table, and of document 02's requests, with the place where it
 // varies.
+#![tactic(auto)]
 
 #[derive(Clone, Copy)]
 pub enum Refusal {

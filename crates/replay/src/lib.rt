@@ -1,5 +1,7 @@
 // Replaying an outage log: definitions and laws, an event of a log, what the replay answers, and what it carries from event to
 // event. The code is in replay_code.
+#![tactic(auto)]
+
 use packing::Node;
 use refusal::Refusal;
 

@@ -1,4 +1,6 @@
 // Replaying a log that stands in an array: a function that other code can call, as only a walk can lend `&[Event]`.
+#![tactic(auto)]
+
 ghost use Rattle.std.specs.Prelude.{◌≡◌, ◌≤◌, take};
 ghost use Rattle.replay.specs.Replays.{check_replay};
 ghost use Rattle.replay.specs.Answers.{replay_answer};

@@ -1,4 +1,6 @@
 // Replaying an outage log: a walk over the lent events, whose step is replay_step's.
+#![tactic(auto)]
+
 ghost use Rattle.std.specs.Prelude.{◌≡◌, ◌<◌, length, get_or};
 ghost use Rattle.replay.specs.Log.{no_event};
 ghost use Rattle.replay.specs.Replays.{check_replay};

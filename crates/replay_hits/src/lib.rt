@@ -1,4 +1,6 @@
 // Each record's replicas on nodes that are down, as nodes go down and come up.
+#![tactic(auto)]
+
 ghost use Rattle.std.specs.Prelude.{◌≡◌, ◌≤◌, eqb, length};
 ghost use Rattle.lists.specs.Lists.{tally};
 ghost use Rattle.worst.specs.Records.{few};

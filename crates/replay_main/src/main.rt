@@ -1,6 +1,8 @@
 // `replay`: takes the outage log in the file that its argument names and a placement on standard input, and prints the lowest number of
 // usable records and the first event after which it stood. No byte of the placement after the first 32,768, and none of the log after
 // the first 131,072, changes what is written.
+#![tactic(auto)]
+
 ghost use Rattle.std.specs.Prelude.{◌≤◌, length};
 ghost use Rattle.report.specs.Replies.{line_needed, Replied};
 ghost use Rattle.logs.specs.Replying.{replay_reply};

@@ -1,4 +1,6 @@
 // A node goes down or comes up: its mark, its records' replicas, and how many records are usable then.
+#![tactic(auto)]
+
 ghost use Rattle.std.specs.Prelude.{◌≡◌, true, false, ◌<◌, length};
 ghost use Rattle.replay.specs.Board.{Counting, down_of, Moved};
 

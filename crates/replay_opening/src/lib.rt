@@ -1,4 +1,6 @@
 // Before the first event: the placement is checked, and its records are listed by node or, in kind 6, by feeder.
+#![tactic(auto)]
+
 ghost use Rattle.std.specs.Prelude.{◌≡◌, ℕ, ◌+◌, ◌≤◌, length, get_or};
 ghost use Rattle.packing.specs.Rows.{rows_at};
 ghost use Rattle.placement.specs.Answers.{rows_by_table};

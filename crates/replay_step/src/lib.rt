@@ -1,4 +1,6 @@
 // One event of a log: it is checked, then its node changes its state.
+#![tactic(auto)]
+
 ghost use Rattle.std.specs.Prelude.{◌≡◌, cond, not, length};
 ghost use Rattle.refusal.specs.Checked.{verdict};
 ghost use Rattle.replay.specs.Log.{check_event};

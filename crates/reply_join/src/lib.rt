@@ -1,4 +1,6 @@
 // The reply of the program `join`, put into a slice that a caller lends.
+#![tactic(auto)]
+
 ghost use Rattle.std.specs.Prelude.{◌≤◌, ◌∷◌, [], length};
 ghost use Rattle.planner.specs.Planning.{output_most};
 ghost use Rattle.join.specs.Join.{join as join_of};

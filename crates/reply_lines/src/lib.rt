@@ -1,4 +1,6 @@
 // Lines of numbers alone, and the line of a refusal of text.
+#![tactic(auto)]
+
 ghost use Rattle.std.specs.Prelude.{◌++◌, ◌∷◌, [], ◌+◌, ◌*◌, ◌≤◌, length};
 ghost use Rattle.report.specs.Programs.{rest, refused_word};
 ghost use Rattle.report.specs.Replies.{Replied, line_needed};

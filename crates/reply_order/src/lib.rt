@@ -1,4 +1,6 @@
 // The s, k and b that an accepted placement has.
+#![tactic(auto)]
+
 ghost use Rattle.call_replies.specs.Orders.{OrderOf};
 
 use placement::{Order, PlacementAnswer};

@@ -1,4 +1,6 @@
 // The reply of the program `plan`, put into a slice that a caller lends.
+#![tactic(auto)]
+
 ghost use Rattle.std.specs.Prelude.{◌≤◌, length};
 ghost use Rattle.planner.specs.Planning.{work_most, output_most};
 ghost use Rattle.report.specs.Replies.{Replied};

@@ -1,4 +1,6 @@
 // The reply of the program `replay`, put into a slice that a caller lends.
+#![tactic(auto)]
+
 ghost use Rattle.std.specs.Prelude.{◌≤◌, length};
 ghost use Rattle.report.specs.Replies.{Replied, line_needed};
 ghost use Rattle.report.specs.Answers.{ReplyDone};

@@ -1,4 +1,6 @@
 // The reply of the program `worst`, put into a slice that a caller lends.
+#![tactic(auto)]
+
 ghost use Rattle.std.specs.Prelude.{◌≡◌, ◌≤◌, length};
 ghost use Rattle.lists.specs.Lists.{over_start};
 ghost use Rattle.report.specs.Replies.{Replied};

@@ -1,4 +1,6 @@
 // The programs' lines and what `check` writes: the definitions, their laws, and the types of the answers.
+#![tactic(auto)]
+
 use refusal::Refusal;
 
 // The bytes that `check` asks for: every line is shorter.

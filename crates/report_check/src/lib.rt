@@ -1,4 +1,6 @@
 // The reply of the program `check`, put into a slice that a caller lends.
+#![tactic(auto)]
+
 mod line;
 
 ghost use Rattle.std.specs.Prelude.{length};

@@ -1,4 +1,6 @@
 // The lines that the programs print, of a refusal and of an accepted placement, and the parts that lines are made of.
+#![tactic(auto)]
+
 mod decimal;
 mod lines;
 mod numbers;

@@ -1,4 +1,6 @@
 // The mean load of a node.
+#![tactic(auto)]
+
 ghost use Rattle.std.specs.Prelude.{◌≡◌, ◌≤◌};
 ghost use Rattle.report.specs.Load.{mean};
 

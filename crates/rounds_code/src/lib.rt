@@ -1,4 +1,6 @@
 // Cuts and repairs in turn on a placement.
+#![tactic(auto)]
+
 mod tables;
 
 ghost use Rattle.std.specs.Prelude.{◌≡◌};

@@ -1,5 +1,7 @@
 // `rounds`: takes q, then a placement on standard input, and prints the usable records after q rounds.
 // No byte after the first 32,768 of standard input changes what is written.
+#![tactic(auto)]
+
 ghost use Rattle.std.specs.Prelude.{◌≤◌, length};
 ghost use Rattle.report.specs.Replies.{line_needed, Replied};
 ghost use Rattle.call_replies.specs.Rounds.{rounds_reply};

@@ -1,4 +1,6 @@
 // The two sides of the game over states: the storm cuts, the crew repairs.
+#![tactic(auto)]
+
 mod players;
 mod states;
 

@@ -1,4 +1,6 @@
 // The order of a row's nodes, and the first row of bytes that is out of order.
+#![tactic(auto)]
+
 mod sixteen;
 
 ghost use Rattle.std.specs.Prelude.{◌≡◌, ◌*◌, ◌≤◌, ◌<◌, length, T, ltb};

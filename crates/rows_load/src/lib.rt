@@ -1,4 +1,6 @@
 // How many rows hold a node.
+#![tactic(auto)]
+
 mod ordered;
 
 ghost use Rattle.std.specs.Prelude.{◌≡◌, ◌*◌, ◌≤◌, max, length, T};

@@ -1,5 +1,7 @@
 // `rows`: reads bare rows as text on standard input and writes the file of bare rows, or the line of the refusal. A text of 131,072 bytes or
 // more is refused, and no byte after these changes what is written.
+#![tactic(auto)]
+
 ghost use Rattle.std.specs.Prelude.{◌≤◌, length};
 ghost use Rattle.report.specs.Replies.{Replied};
 ghost use Rattle.table.specs.Progress.{pack_most};

@@ -1,4 +1,6 @@
 // Bare rows as text, and the reply of the program `listing`, put into a slice that a caller lends.
+#![tactic(auto)]
+
 ghost use Rattle.std.specs.Prelude.{◌≤◌, length};
 ghost use Rattle.report.specs.Answers.{ReplyDone};
 ghost use Rattle.report.specs.Replies.{Replied};

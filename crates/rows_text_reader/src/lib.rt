@@ -1,4 +1,6 @@
 // Bare rows as text, read line after line.
+#![tactic(auto)]
+
 mod lines;
 mod order;
 mod reader;

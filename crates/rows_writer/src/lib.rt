@@ -1,4 +1,6 @@
 // Copying bytes, and writing blocks as rows.
+#![tactic(auto)]
+
 ghost use Rattle.std.specs.Prelude.{◌≡◌, ◌+◌, ◌*◌, ◌≤◌, ◌<◌, min, length, take, drop};
 ghost use mathlib.Core.List.{◌++◌, flatten};
 ghost use Rattle.lists.specs.Lists.{over_start};

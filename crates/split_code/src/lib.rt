@@ -1,4 +1,6 @@
 // The counts of the named split, chosen with a table of least losses in the working slice.
+#![tactic(auto)]
+
 ghost use Rattle.std.specs.Prelude.{suc, ◌*◌, ◌≤◌, length};
 ghost use Rattle.split.specs.Table.{Limits};
 ghost use Rattle.split.specs.Working.{Chosen};

@@ -1,4 +1,6 @@
 // The count of one layer of the named split.
+#![tactic(auto)]
+
 ghost use Rattle.std.specs.Prelude.{◌≡◌, cond, ◌+◌, ◌*◌, ◌≤◌, ◌<◌, min, length, leb};
 ghost use Rattle.placement.specs.declared.Rule.TheVariants.{NestedFloors};
 ghost use Rattle.split.specs.Splits.{last_least, best_count};

@@ -1,4 +1,6 @@
 // A line of the planner's table from the one before it.
+#![tactic(auto)]
+
 mod passes;
 mod periods;
 

@@ -1,4 +1,6 @@
 // A layer's losses in steps.
+#![tactic(auto)]
+
 ghost use Rattle.std.specs.Prelude.{◌≡◌, ◌≤◌, ◌<◌};
 ghost use Rattle.packing.specs.Floors.{falling};
 ghost use Rattle.split.specs.Table.{Limits, costs_of, copies_lose, steps_of};

@@ -1,4 +1,6 @@
 // The planner's table in the working slice: line x has the least losses of 0, .., b records in the layers below x.
+#![tactic(auto)]
+
 mod base;
 
 ghost use Rattle.std.specs.Prelude.{suc, ◌*◌, ◌≤◌, ◌<◌, length};

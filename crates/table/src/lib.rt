@@ -1,4 +1,5 @@
 // A block table as text: what reading it and printing it mean. The code is in table_code.
+#![tactic(auto)]
 
 // A text of so many bytes is longer than `pack` holds.
 pub const TEXT_MOST: usize = 131_072;

@@ -1,4 +1,6 @@
 // What a block's line adds to the pack that is made of a table.
+#![tactic(auto)]
+
 mod blocks;
 mod nodes;
 

@@ -1,4 +1,6 @@
 // A pack from a block table as text: it is read, written and checked, and the reply is put into a slice that a caller lends.
+#![tactic(auto)]
+
 mod maker;
 mod reply;
 

@@ -1,4 +1,6 @@
 // The lines of a block table: where they end, the word that each begins with, and its numbers.
+#![tactic(auto)]
+
 mod bytes;
 mod numbers;
 mod words;

@@ -1,4 +1,6 @@
 // A block table as text, read line after line.
+#![tactic(auto)]
+
 mod lines;
 mod reader;
 

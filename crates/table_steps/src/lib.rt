@@ -1,4 +1,6 @@
 // What each line of a block table's head adds to the pack that is made of it, and the order of the nodes that a line names.
+#![tactic(auto)]
+
 mod heads;
 mod nodes;
 

@@ -1,4 +1,6 @@
 // Reading a placement's s, k, b and F.
+#![tactic(auto)]
+
 ghost use Rattle.std.specs.Prelude.{◌≡◌, ◌≤◌};
 ghost use Rattle.refusal.specs.Checked.{refused};
 ghost use Rattle.layers.specs.Answers.{site_of};

@@ -1,4 +1,5 @@
 // What a program is given as text: the refusals of text, and the numbers that it takes before its file. The code is in text_code.
+#![tactic(auto)]
 
 // The refusals of text, with numbers from 22 on.
 #[derive(Clone, Copy)]

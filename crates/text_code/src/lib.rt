@@ -1,4 +1,6 @@
 // The numbers that a program takes, as arguments or at the start of its input.
+#![tactic(auto)]
+
 mod decimal;
 mod given;
 

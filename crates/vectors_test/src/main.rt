@@ -1,5 +1,7 @@
 // Runs the vectors of every call, which reference/vectors.py makes, and prints how many there were of each kind and how many
 // answered otherwise than expected. script.rt says how the vectors stand on standard input, calls.rt what each call is.
+#![tactic(auto)]
+
 mod answers;
 mod calls;
 mod compare;

@@ -1,4 +1,6 @@
 // The row walk: a placement's rows, one after the other. A walk is opened here; its step is passed on.
+#![tactic(auto)]
+
 mod stepping;
 
 ghost use Rattle.std.specs.Prelude.{◌≡◌};

@@ -1,4 +1,6 @@
 // Where a walk stands, the row there, and the place past it.
+#![tactic(auto)]
+
 mod place;
 mod rows;
 

@@ -1,5 +1,7 @@
 // The true worst case of a placement: definitions and laws, what the call answers, and what a search carries from node to
 // node. The code is in worst_records, worst_hits, worst_last, worst_two, worst_rest, worst_search and worst_code.
+#![tactic(auto)]
+
 use packing::Node;
 use refusal::Refusal;
 

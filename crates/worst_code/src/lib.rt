@@ -1,4 +1,6 @@
 // The true worst case of a placement.
+#![tactic(auto)]
+
 mod limit;
 mod rows;
 

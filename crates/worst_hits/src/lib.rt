@@ -1,4 +1,6 @@
 // Each record's replicas on failed nodes, as nodes are chosen and left.
+#![tactic(auto)]
+
 ghost use Rattle.std.specs.Prelude.{◌≡◌, ◌+◌, ◌≤◌, ◌<◌, eqb, length, get_or};
 ghost use Rattle.lists.specs.Lists.{tally};
 ghost use Rattle.worst.specs.Records.{entries_of, few, lowered_to, lost_to};

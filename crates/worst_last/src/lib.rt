@@ -1,4 +1,6 @@
 // Sets of which one node is to come: no recursion is needed, and only what the node loses is counted.
+#![tactic(auto)]
+
 ghost use Rattle.std.specs.Prelude.{◌≡◌, ◌+◌};
 ghost use Rattle.worst.specs.Searches.{LastChosen, Searched, Searching};
 

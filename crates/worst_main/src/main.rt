@@ -1,5 +1,7 @@
 // `worst`: reads a placement on standard input and prints the fewest usable records and the first set of nodes that leaves so few.
 // No byte after the first 32,768 of standard input changes what is written.
+#![tactic(auto)]
+
 ghost use Rattle.std.specs.Prelude.{◌≤◌, length};
 ghost use Rattle.report.specs.Replies.{Replied};
 ghost use Rattle.call_replies.specs.Worst.{worst_reply, worst_needed};

@@ -1,4 +1,6 @@
 // Where a search through sets needs no recursion: sets that have every node that is left.
+#![tactic(auto)]
+
 ghost use Rattle.std.specs.Prelude.{◌≡◌, ◌-◌, ◌≤◌, length, take};
 ghost use Rattle.worst.specs.Records.{HitsOf, Index};
 ghost use Rattle.worst.specs.Searches.{RestAsked, RestRaised, Searched, Searching};

@@ -1,4 +1,6 @@
 // Going through the sets of k nodes by choosing or leaving each node, with each record's replicas on failed nodes at hand.
+#![tactic(auto)]
+
 ghost use Rattle.std.specs.Prelude.{◌≡◌, ◌+◌, ◌-◌, ◌≤◌, ◌<◌, true, leb, length};
 ghost use Rattle.worst.specs.Records.{Index};
 ghost use Rattle.worst.specs.Searches.{Light, NextChosen, NoLower, Searched, Searching};

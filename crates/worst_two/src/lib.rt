@@ -1,4 +1,6 @@
 // Sets of which two nodes are to come: no recursion is needed.
+#![tactic(auto)]
+
 ghost use Rattle.std.specs.Prelude.{◌≡◌, ◌+◌};
 ghost use Rattle.worst.specs.Searches.{NextChosen, Searched, Searching};
 

@@ -14,6 +14,7 @@ loss_of-lost-requires c =
     (c.loop-x-test.true, c.requires.s_bound.0, c.requires.s_bound.1, c.requires.s_bound.2, small)
 
 pub overflow_add-lost : goal.overflow_add-lost
+unfolding lost_by loss
 overflow_add-lost c =
     omega (arith, c.requires.s_bound, lost-le-sizes _ _ _ _ _ _ ((let again-here : LossTurn c.args.rule c.args.order.s c.args.order.k c.args.layers (c.loop-x.lost + c.loss_of-lost.result) (c.loop-x.x + 1) = loss-again _ _ _ _ _ _ c.loop-x.invariant c.loop-x-test.true ((let held-here : c.args.order.s ≤ length c.args.layers = omega (arith, c.requires.s_bound.0) in held-here)) c.loss_of-lost.ensures in again-here)))
 
