@@ -18,7 +18,7 @@ use Rattle.packing.specs.Rows.{ascending, member}
 use Rattle.packing.specs.Failures.{Failure, FailedNodes, hits, usable}
 use Rattle.packing.proofs.Members.{le-of-member, ascending-distinct}
 use Rattle.worst.specs.Worst.{Worst, nodes_from, usable_without, none_yet, worst_over, Before}
-use Rattle.worst.proofs.Through.{at, length-nodes_from}
+use Rattle.worst.proofs.Through.{length-nodes_from}
 use Rattle.worst.proofs.Sets.{Within, Lowered, within-ascending, within-below, ascending-within, through-at-most, through-lowers}
 
 -- the failed ones of the nodes, in order

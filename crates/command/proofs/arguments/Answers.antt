@@ -1,4 +1,3 @@
-use Prim.Native.Nat.{◌-◌}
 use native.Mathlib.Omega.{arith}
 use mathlib.Core.Path.{refl, ◌∙◌}
 use Rattle.console.proofs.Counted.{counts-of}
@@ -17,11 +16,10 @@ pub put_argument-at-requires : goal.put_argument-at-requires
 put_argument-at-requires c = omega (arith, c.if-text-at-lt17.false, c.loop-i.invariant.0)
 
 pub loop-i-preserved : goal.loop-i-preserved
-loop-i-preserved c =
-    (
-      omega (arith, c.put_argument-at.ensures, c.put_argument-at.auto.text, c.if-text-at-lt17.false, c.loop-i.invariant.0),
-      c.put_argument-at.auto.text ∙ c.loop-i.invariant.1,
-    )
+loop-i-preserved c = (
+  omega (arith, c.put_argument-at.ensures, c.put_argument-at.auto.text, c.if-text-at-lt17.false, c.loop-i.invariant.0),
+  c.put_argument-at.auto.text ∙ c.loop-i.invariant.1,
+)
 
 pub shape_of-text : goal.shape_of-text
 shape_of-text c = c.loop-i.invariant.1

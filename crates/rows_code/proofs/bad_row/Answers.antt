@@ -1,4 +1,3 @@
-use Prim.Native.Nat.{◌-◌}
 use native.Mathlib.Nat.{mul-le-mul_right}
 use native.Mathlib.Omega.{arith}
 use mathlib.Core.Path.{sym, ap, ◌∙◌}
@@ -35,8 +34,7 @@ returns-then-not-row_in_order c =
 pub loop-j-preserved : goal.loop-j-preserved
 loop-j-preserved c =
     let a = c.args in
-    let turn = c.loop-j-test.true in
-    (
+    let turn = c.loop-j-test.true in (
       omega arith,
       omega arith,
       c.loop-j.invariant.2

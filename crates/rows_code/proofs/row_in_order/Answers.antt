@@ -1,4 +1,3 @@
-use Prim.Native.Nat.{◌-◌}
 use native.Mathlib.Omega.{arith}
 use mathlib.Core.Path.{sym, ◌∙◌}
 use Rattle.rows_code.proofs.Row.{order-of-none, order-of-first, order-of-low, order-of-next, order-of-end}
@@ -18,12 +17,11 @@ returns-then-not-ascend c =
     (sym c.ascend.ensures ∙ c.if-not-ascend.true))
 
 pub loop-i-preserved : goal.loop-i-preserved
-loop-i-preserved c =
-    (
-      omega arith,
-      c.loop-i.invariant.1 ∙ order-of-next _ _ _ _ c.loop-i-test.true
-          (sym c.ascend.ensures ∙ c.if-not-ascend.false),
-    )
+loop-i-preserved c = (
+  omega arith,
+  c.loop-i.invariant.1 ∙ order-of-next _ _ _ _ c.loop-i-test.true
+      (sym c.ascend.ensures ∙ c.if-not-ascend.false),
+)
 
 pub returns : goal.returns
 returns c =

@@ -1,4 +1,4 @@
-use Prim.Native.Nat.{◌+◌, ◌-◌}
+use Prim.Native.Nat.{◌+◌}
 use native.Mathlib.Omega.{arith}
 use mathlib.Core.Path.{◌≡◌, refl, ap, ◌∙◌}
 use lib.ListN.{set, get_or, length-set}
@@ -11,8 +11,7 @@ loop-i-init c = (search rules, refl, copied_none c.args.out.now c.args.to)
 
 pub loop-i-preserved : goal.loop-i-preserved
 loop-i-preserved c =
-    let a = c.args in
-    (
+    let a = c.args in (
       omega arith,
       simp length-set c.loop-i.invariant.1,
       ap (λ now. set now (a.to + c.loop-i.i) (get_or now c.loop-i.i 0)) c.loop-i.invariant.2

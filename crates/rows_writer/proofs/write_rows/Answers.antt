@@ -1,4 +1,4 @@
-use Prim.Native.Nat.{◌*◌, ◌-◌, ◌≤◌}
+use Prim.Native.Nat.{◌*◌, ◌≤◌}
 use mathlib.Core.Path.{◌∙◌}
 use lib.ListN.{length}
 use native.Mathlib.Omega.{arith}
@@ -6,19 +6,28 @@ use Rattle.rows_writer.proofs.Runs.{once-fits, run-first, run_fits, run-next, ru
 use Rattle.rows_writer.proofs.write_rows.Goals as goal
 
 pub overflow_mul-end : goal.overflow_mul-end
-overflow_mul-end c = omega (arith, (let once-here : let a = c.args in
-    (c.smaller-once.result * a.r ≤ length a.blocks.now) × (c.smaller-once.result * a.r ≤ length a.out.now) = let a = c.args in
-    once-fits a.out.now a.blocks.now a.m a.r a.c c.smaller-once.result (c.requires.r_in_bounds, (c.requires.r_in_bounds_2, c.requires.m_nonzero)) c.smaller-once.ensures in once-here))
+overflow_mul-end c = omega (
+  arith,
+  (let once-here : let a = c.args in
+      (c.smaller-once.result * a.r ≤ length a.blocks.now) × (c.smaller-once.result * a.r ≤ length a.out.now) = let a = c.args in
+      once-fits a.out.now a.blocks.now a.m a.r a.c c.smaller-once.result (c.requires.r_in_bounds, (c.requires.r_in_bounds_2, c.requires.m_nonzero)) c.smaller-once.ensures in once-here),
+)
 
 pub slice_bounds-copy_bytes-end : goal.slice_bounds-copy_bytes-end
-slice_bounds-copy_bytes-end c = omega (arith, (let once-here : let a = c.args in
-    (c.smaller-once.result * a.r ≤ length a.blocks.now) × (c.smaller-once.result * a.r ≤ length a.out.now) = let a = c.args in
-    once-fits a.out.now a.blocks.now a.m a.r a.c c.smaller-once.result (c.requires.r_in_bounds, (c.requires.r_in_bounds_2, c.requires.m_nonzero)) c.smaller-once.ensures in once-here))
+slice_bounds-copy_bytes-end c = omega (
+  arith,
+  (let once-here : let a = c.args in
+      (c.smaller-once.result * a.r ≤ length a.blocks.now) × (c.smaller-once.result * a.r ≤ length a.out.now) = let a = c.args in
+      once-fits a.out.now a.blocks.now a.m a.r a.c c.smaller-once.result (c.requires.r_in_bounds, (c.requires.r_in_bounds_2, c.requires.m_nonzero)) c.smaller-once.ensures in once-here),
+)
 
 pub copy_bytes-requires : goal.copy_bytes-requires
-copy_bytes-requires c = omega (arith, (let once-here : let a = c.args in
-    (c.smaller-once.result * a.r ≤ length a.blocks.now) × (c.smaller-once.result * a.r ≤ length a.out.now) = let a = c.args in
-    once-fits a.out.now a.blocks.now a.m a.r a.c c.smaller-once.result (c.requires.r_in_bounds, (c.requires.r_in_bounds_2, c.requires.m_nonzero)) c.smaller-once.ensures in once-here))
+copy_bytes-requires c = omega (
+  arith,
+  (let once-here : let a = c.args in
+      (c.smaller-once.result * a.r ≤ length a.blocks.now) × (c.smaller-once.result * a.r ≤ length a.out.now) = let a = c.args in
+      once-fits a.out.now a.blocks.now a.m a.r a.c c.smaller-once.result (c.requires.r_in_bounds, (c.requires.r_in_bounds_2, c.requires.m_nonzero)) c.smaller-once.ensures in once-here),
+)
 
 pub loop-written-init : goal.loop-written-init
 loop-written-init c = ((run-first c.copy_bytes.new.out c.smaller-once.result (c.requires.r_in_bounds, (c.requires.r_in_bounds_2, c.requires.m_nonzero)) c.smaller-once.ensures c.copy_bytes.ensures)).run

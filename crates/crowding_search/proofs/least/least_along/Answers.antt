@@ -8,9 +8,8 @@ link_rows-requires c = let p = c.requires in root-to-link p.0 p.1
 
 pub children-requires : goal.children-requires
 children-requires c =
-    let lengths = c.link_rows.auto.heads in
-    root-to-visit c.requires.0 c.link_rows.ensures c.args.bound c.highest-high.result c.highest-high.ensures lengths.0
-    lengths.1.0 (omega (arith, c.requires.1, lengths.1.1.0))
+    root-to-visit c.requires.0 c.link_rows.ensures c.args.bound c.highest-high.result c.highest-high.ensures c.link_rows.auto.heads
+    c.link_rows.auto.counts (omega (arith, c.requires.1, c.link_rows.auto.next))
 
 pub returns : goal.returns
 returns c =

@@ -73,9 +73,9 @@ visit-overflow_add-above t c =
 
 pub visit-children-requires : goal.visit-children-requires
 visit-children-requires t c =
-    let lengths = c.link_tails-most.auto.chain in (
+    (
       omega (arith, c.decreases, (let some-here : 0 < c.args.search.level.w = omega (arith, c.if-w-eq0.false) in some-here)),
-      level-to-visit c.requires ((let some-here : 0 < c.args.search.level.w = omega (arith, c.if-w-eq0.false) in some-here)) c.link_tails-most.ensures lengths.1.0 lengths.1.1.0 lengths.1.1.1.0,
+      level-to-visit c.requires ((let some-here : 0 < c.args.search.level.w = omega (arith, c.if-w-eq0.false) in some-here)) c.link_tails-most.ensures c.link_tails-most.auto.heads c.link_tails-most.auto.counts c.link_tails-most.auto.next,
     )
 
 pub visit-returns : goal.visit-returns

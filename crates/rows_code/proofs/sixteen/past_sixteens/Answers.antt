@@ -1,4 +1,4 @@
-use Prim.Native.Nat.{◌*◌, ◌-◌}
+use Prim.Native.Nat.{◌*◌}
 use native.Mathlib.Nat.{mul-le-mul_right}
 use native.Mathlib.Omega.{arith}
 use mathlib.Core.Path.{◌≡◌, sym, ◌∙◌, ap}
@@ -21,7 +21,7 @@ all_below-requires c =
     c.loop-j.invariant.1 c.loop-j-test.true
 
 pub returns-then-not-all_below : goal.returns-then-not-all_below
-returns-then-not-all_below c = let inv = c.loop-j.invariant in  record { upper_bound = inv.0; all_2 = inv.2; }
+returns-then-not-all_below c = let inv = c.loop-j.invariant in record { upper_bound = inv.0; all_2 = inv.2 }
 
 pub overflow_add-at : goal.overflow_add-at
 overflow_add-at c =
@@ -40,8 +40,7 @@ loop-j-preserved c =
     let within = marks-within a.r a.c 16 c.loop-j.j c.loop-j.at a.rows.now a.marks.now c.requires.r_nonzero c.requires.r_in_bounds c.requires.marks_value
     c.loop-j.invariant.1 more in
     let marked : length a.marks.now ≡ 16 * a.r = ap length c.requires.marks_value ∙ length-marks_of a.r 16 in
-    let fine = sym c.all_below.ensures ∙ c.if-not-all_below.false in
-    (
+    let fine = sym c.all_below.ensures ∙ c.if-not-all_below.false in (
       omega arith,
       omega arith,
       rows_more a.n c.top_of-top.result c.top_of-top.ensures a.rows.now a.marks.now a.r 16 c.loop-j.j c.requires.marks_value (omega arith)
@@ -49,4 +48,4 @@ loop-j-preserved c =
     )
 
 pub returns : goal.returns
-returns c = let inv = c.loop-j.invariant in  record { upper_bound = inv.0; all_2 = inv.2; }
+returns c = let inv = c.loop-j.invariant in record { upper_bound = inv.0; all_2 = inv.2 }

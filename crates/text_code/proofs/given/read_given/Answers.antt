@@ -1,4 +1,3 @@
-use Prim.Native.Nat.{◌-◌}
 use mathlib.Core.Path.{sym, ◌∙◌}
 use Rattle.number.proofs.Within.{number_read-value, number_read-refused}
 use Rattle.text.proofs.Numbers.{given_holds, given-all, given-unread, given-again}
