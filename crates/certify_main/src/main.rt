@@ -22,20 +22,20 @@ fn reply(arguments: &[u8], input: &[u8], out: &mut [u8]) -> usize
 }
 
 // Writes the reply for the arguments and the input.
-fn answer(arguments: &[u8], input: &[u8]) {
+fn answer(rt: &(impl Print + Eprint), arguments: &[u8], input: &[u8]) {
     let mut out = [0u8; OUTPUT_MOST];
     let length = reply(arguments, input, &mut out);
-    console::write_output(&out[0..length]);
+    console::write_output(rt, &out[0..length]);
 }
 
-fn main() {
+fn main(rt: HostRuntime) {
     let mut words = [0u8; 272];
-    let size = command::arguments(&mut words);
+    let size = command::arguments(&rt, &mut words);
     let mut buffer = [0u8; 32768];
-    let taken = console::read_input(&mut buffer);
-    if !taken.good {
+    let taken = console::read_input(&rt, &mut buffer);
+    if taken.failure.is_some() {
         return;
     }
     let count = taken.count;
-    answer(&words[0..size], &buffer[0..count]);
+    answer(&rt, &words[0..size], &buffer[0..count]);
 }

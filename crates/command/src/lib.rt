@@ -2,80 +2,141 @@
 #![tactic(auto)]
 
 ghost use Rattle.std.specs.Prelude.{◌+◌, ◌≤◌, length};
-ghost use Rattle.io.specs.Counts.{IsPrefixLen};
+ghost use Rattle.console.specs.Counts.{IsPrefixLen};
 
 use console::Taken;
+use std::env::FillError;
+use std::rt::{Env, Files};
+use std::{fs, io, str};
 
 // How many bytes of an argument are looked at: no number has so many digits.
 const LONGEST: usize = 16;
 
+// How many bytes of a file's name are taken: the system opens none of so many.
+const NAME_MOST: usize = 4096;
+
+// How many arguments there are, the program's own name among them.
+fn arg_count(rt: &impl Env) -> usize {
+    let mut none = [0u8; 0];
+    for i in 0..usize::MAX {
+        if let Err(FillError::NotPresent) = rt.arg(i, &mut none) {
+            return i;
+        }
+    }
+    usize::MAX
+}
+
 // Puts argument i at the start of `word` and answers its length; of a longer one as much as there is room for.
-fn fetch(i: usize, word: &mut [u8]) -> usize
+fn fetch(rt: &impl Env, i: usize, word: &mut [u8]) -> usize
     ensures { result ≤ length word.new }
 {
-    let n = os::arg(i, word);
-    if os::errno() == libc::ENAMETOOLONG {
-        return word.len();
+    match rt.arg(i, word) {
+        Ok(n) => n,
+        Err(FillError::TooLong) => word.len(),
+        Err(FillError::NotPresent) => 0,
     }
-    n
 }
 
 // Puts argument i at `at`, with a byte 0 after it, and answers the place after that.
-fn put_argument(i: usize, text: &mut [u8], at: usize) -> usize
+fn put_argument(rt: &impl Env, i: usize, text: &mut [u8], at: usize) -> usize
     requires { at + 17 ≤ length text.old }
     ensures { result ≤ at + 17 }
 {
     let end = at + LONGEST;
-    let next = at + fetch(i, &mut text[at..end]);
+    let next = at + fetch(rt, i, &mut text[at..end]);
     text[next] = 0;
     next + 1
 }
 
 // Puts the arguments into `text` as far as it reaches, each with a byte 0 after it, of a longer one its first 16 bytes; answers how
 // many bytes these are.
-pub fn arguments(text: &mut [u8]) -> usize
+pub fn arguments(rt: &impl Env, text: &mut [u8]) -> usize
     ensures { IsPrefixLen result text.new }
 {
-    let count = os::arg_count();
+    let count = arg_count(rt);
     let mut at: usize = 0;
     let mut i: usize = 1;
     while i < count {
         if text.len() - at < 17 {
             return at;
         }
-        at = put_argument(i, text, at);
+        at = put_argument(rt, i, text, at);
         i += 1;
     }
     at
 }
 
 // How many arguments there are, the program's own name not counted.
-pub fn named() -> usize {
-    let count = os::arg_count();
+pub fn named(rt: &impl Env) -> usize {
+    let count = arg_count(rt);
     if count == 0 {
         return 0;
     }
     count - 1
 }
 
-// Reads the file that argument i names, and says where it can't.
-pub fn read_named(i: usize, buffer: &mut [u8]) -> Taken
+// An error's text without the system's number of it, which ends it.
+fn without_number(text: &str) -> &str {
+    match text.split_once(" (os error ") {
+        Some((why, _)) => why,
+        None => text,
+    }
+}
+
+// Says on standard error what failed, and why.
+fn fail(rt: &(impl Eprint + Alloc), what: &str, e: io::Error) {
+    let _ = match e.to_string(rt.alloc()) {
+        Ok(text) => {
+            let why = without_number(text.as_str());
+            eprintln!(rt; "{what}: {why}")
+        }
+        Err(_) => eprintln!(rt; "{what}: {e}"),
+    };
+}
+
+// Reads the file of that name, and says where it can't.
+fn read_file(rt: &(impl Files + Eprint + Alloc), name: &str, buffer: &mut [u8]) -> Taken
     ensures { IsPrefixLen result.count buffer.new }
 {
-    let mut path = io::buffer();
-    let n = os::arg(i, &mut path);
-    let fd = os::open_read(&path[..n]);
-    if fd < 0 {
-        os::fail(&path[..n]);
-        return Taken {
+    match fs::open(rt, name) {
+        Ok(mut file) => {
+            let taken = console::read_all(&mut file, buffer);
+            if let Some(e) = taken.failure {
+                fail(rt, name, e);
+            }
+            taken
+        }
+        Err(e) => {
+            fail(rt, name, e);
+            Taken {
+                count: 0,
+                failure: Some(e),
+            }
+        }
+    }
+}
+
+// Says that a name is no text, and so names no file that could be opened.
+fn refuse_name(rt: &impl Eprint, name: &[u8]) -> io::Error {
+    let e = io::Error::new(
+        io::ErrorKind::InvalidFilename,
+        "the name is not text in UTF-8",
+    );
+    let _ = eprintln!(rt; "{}: {e}", name.escape_ascii());
+    e
+}
+
+// Reads the file that argument i names, and says where it can't.
+pub fn read_named(rt: &(impl Env + Files + Eprint + Alloc), i: usize, buffer: &mut [u8]) -> Taken
+    ensures { IsPrefixLen result.count buffer.new }
+{
+    let mut name = [0u8; NAME_MOST];
+    let n = rt.arg(i, &mut name).unwrap_or(0);
+    match str::from_utf8(&name[..n]) {
+        Ok(text) => read_file(rt, text, buffer),
+        Err(_) => Taken {
             count: 0,
-            good: false,
-        };
+            failure: Some(refuse_name(rt, &name[..n])),
+        },
     }
-    let taken = console::read_all(fd, buffer);
-    if !taken.good {
-        os::fail(&path[..n]);
-    }
-    libc::close(fd);
-    taken
 }

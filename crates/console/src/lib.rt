@@ -1,64 +1,84 @@
 // Standard input and output, with what fails told on standard error.
 #![tactic(auto)]
 
-ghost use Rattle.std.specs.Prelude.{◌+◌, ◌≤◌, length};
-ghost use Rattle.io.specs.Counts.{IsPrefixLen};
+ghost use Rattle.std.specs.Prelude.{◌≡◌, ◌+◌, ◌<◌, ◌≤◌, IsNone, drop, length, take};
+ghost use Rattle.std.specs.Io.KnownBytes.{Consumes, IsAtEnd};
+ghost use Rattle.console.specs.Counts.{IsPrefixLen};
 
-use libc::{STDERR_FILENO, STDIN_FILENO, STDOUT_FILENO};
+use std::io;
+use std::io::Read;
 
-// What was read: how many bytes stand at the buffer's start, and whether no read failed.
+// What was read: how many bytes stand at the buffer's start, and why a read failed, where one did.
 #[derive(Clone, Copy)]
 pub struct Taken {
     pub count: usize,
-    pub good: bool,
+    pub failure: Option<io::Error>,
 }
 
 // One read into the buffer from `at` on.
-fn read_more(fd: i32, buffer: &mut [u8], at: usize) -> Taken
+fn read_more<R: Read>(reader: &mut R, buffer: &mut [u8], at: usize) -> Taken
     requires { at ≤ length buffer.old }
-    ensures { at + result.count ≤ length buffer.new }
+    ensures fits { at + result.count ≤ length buffer.new }
+    ensures before { take at buffer.new ≡ take at buffer.old }
+    ensures bytes { Consumes (R.remaining reader.old) (R.remaining reader.new)
+        (take result.count (drop at buffer.new)) }
+    ensures end { IsNone result.failure → result.count ≡ 0 → at < length buffer.old
+        → IsAtEnd (R.remaining reader.new) }
 {
-    let got = libc::read(fd, &mut buffer[at..]);
-    let count = io::count(got, &buffer[at..]);
-    Taken {
-        count,
-        good: 0 <= got,
+    match reader.read(&mut buffer[at..]) {
+        Ok(count) => Taken {
+            count,
+            failure: None,
+        },
+        Err(e) => Taken {
+            count: 0,
+            failure: Some(e),
+        },
     }
 }
 
-// Reads until the buffer is full, the input ends or a read fails.
-pub fn read_all(fd: i32, buffer: &mut [u8]) -> Taken
-    ensures { IsPrefixLen result.count buffer.new }
+// Reads until the buffer is full, the input ends or a read fails: takes as many of the reader's bytes as it counts, and fewer than the
+// buffer has room for only where none is left or a read failed.
+pub fn read_all<R: Read>(reader: &mut R, buffer: &mut [u8]) -> Taken
+    ensures counted { IsPrefixLen result.count buffer.new }
+    ensures bytes { Consumes (R.remaining reader.old) (R.remaining reader.new)
+        (take result.count buffer.new) }
+    ensures end { IsNone result.failure → result.count < length buffer.new
+        → IsAtEnd (R.remaining reader.new) }
 {
     let mut count: usize = 0;
     while count < buffer.len() {
-        let more = read_more(fd, buffer, count);
+        let more = read_more(reader, buffer, count);
         let got = more.count;
         if got == 0 {
             return Taken {
                 count,
-                good: more.good,
+                failure: more.failure,
             };
         }
         count += got;
     }
-    Taken { count, good: true }
+    Taken {
+        count,
+        failure: None,
+    }
 }
 
 // Reads standard input, and says where it can't.
-pub fn read_input(buffer: &mut [u8]) -> Taken
+pub fn read_input(rt: &(impl Input + Eprint), buffer: &mut [u8]) -> Taken
     ensures { IsPrefixLen result.count buffer.new }
 {
-    let taken = read_all(STDIN_FILENO, buffer);
-    if !taken.good {
-        io::write_all(STDERR_FILENO, b"standard input can't be read\n");
+    let mut reader = rt.reader();
+    let taken = read_all(&mut reader, buffer);
+    if taken.failure.is_some() {
+        let _ = rt.eprint("standard input can't be read\n");
     }
     taken
 }
 
 // Writes to standard output, and says where it can't.
-pub fn write_output(bytes: &[u8]) {
-    if !io::write_all(STDOUT_FILENO, bytes) {
-        io::write_all(STDERR_FILENO, b"standard output can't be written\n");
+pub fn write_output(rt: &(impl Print + Eprint), bytes: &[u8]) {
+    if rt.write_all(bytes).is_err() {
+        let _ = rt.eprint("standard output can't be written\n");
     }
 }

@@ -3,7 +3,6 @@
 #![tactic(auto)]
 
 use join::Joined;
-use libc::{STDIN_FILENO, STDOUT_FILENO};
 use number::NumberRead;
 use refusal::Refusal;
 
@@ -28,30 +27,29 @@ fn after(bytes: &[u8], at: usize) -> &[u8] {
     }
 }
 
-fn put(text: &[u8], n: usize) {
-    io::write_all(STDOUT_FILENO, text);
-    io::print_decimal(STDOUT_FILENO, n as u64);
+fn put(rt: &impl Print, text: &str, n: usize) {
+    let _ = print!(rt; "{text}{n}");
 }
 
-fn refuse(e: Refusal) {
-    put(b"refused ", refusal_code::number(e));
-    put(b" ", refusal_code::place(e));
-    io::write_all(STDOUT_FILENO, b"\n");
+fn refuse(rt: &impl Print, e: Refusal) {
+    put(rt, "refused ", refusal_code::number(e));
+    put(rt, " ", refusal_code::place(e));
+    let _ = rt.print("\n");
 }
 
 // Writes the joined pack, or the line of the refusal.
-fn answer(first: &[u8], second: &[u8], third: &[u8]) {
+fn answer(rt: &impl Print, first: &[u8], second: &[u8], third: &[u8]) {
     let mut out = [0u8; ROOM];
     match join_code::join_three(first, second, third, &mut out) {
         Joined::Written(n) => {
-            io::write_all(STDOUT_FILENO, start_of(&out, n));
+            let _ = rt.write_all(start_of(&out, n));
         }
-        Joined::Refused(e) => refuse(e),
+        Joined::Refused(e) => refuse(rt, e),
     }
 }
 
 // Takes the packs apart.
-fn packs(input: &[u8]) {
+fn packs(rt: &impl Print, input: &[u8]) {
     let NumberRead::Value(one) = number_code::read_number(input, 0) else {
         return;
     };
@@ -61,14 +59,16 @@ fn packs(input: &[u8]) {
     let rest = after(input, two.next);
     let others = after(rest, one.value);
     answer(
+        rt,
         start_of(rest, one.value),
         start_of(others, two.value),
         after(others, two.value),
     );
 }
 
-fn main() {
+fn main(rt: HostRuntime) {
     let mut buffer = [0u8; 32768];
-    let n = io::read_full(STDIN_FILENO, &mut buffer);
-    packs(&buffer[0..n]);
+    let taken = console::read_all(&mut rt.reader(), &mut buffer);
+    let n = taken.count;
+    packs(&rt, &buffer[0..n]);
 }

@@ -3,7 +3,7 @@
 #![tactic(auto)]
 
 ghost use Rattle.std.specs.Prelude.{◌≤◌, length};
-ghost use Rattle.io.specs.Counts.{IsPrefixLen};
+ghost use Rattle.console.specs.Counts.{IsPrefixLen};
 ghost use Rattle.planner.specs.Planning.{output_most};
 ghost use Rattle.report.specs.Replies.{Replied};
 ghost use Rattle.call_replies.specs.Join.{join_reply};
@@ -11,6 +11,7 @@ ghost use Rattle.call_replies.specs.Join.{join_reply};
 use console::Taken;
 use replies::OUTPUT_MOST;
 use report::Reply;
+use std::rt::{Env, Files};
 
 // Puts what is written for so many named files at the start of `out`, and answers its length: such a slice is never refused.
 fn reply(named: usize, first: &[u8], second: &[u8], third: &[u8], out: &mut [u8]) -> usize
@@ -26,54 +27,59 @@ fn reply(named: usize, first: &[u8], second: &[u8], third: &[u8], out: &mut [u8]
 }
 
 // Writes the reply for so many named files.
-fn answer(named: usize, first: &[u8], second: &[u8], third: &[u8]) {
+fn answer(rt: &(impl Print + Eprint), named: usize, first: &[u8], second: &[u8], third: &[u8]) {
     let mut out = [0u8; OUTPUT_MOST];
     let length = reply(named, first, second, third, &mut out);
-    console::write_output(&out[0..length]);
+    console::write_output(rt, &out[0..length]);
 }
 
 // Reads file i of those that are named, or standard input as the first where none is; nothing where there is no such file, or where
 // more than three are named.
-fn take_file(i: usize, named: usize, buffer: &mut [u8]) -> Taken
+fn take_file(
+    rt: &(impl Input + Env + Files + Eprint + Alloc),
+    i: usize,
+    named: usize,
+    buffer: &mut [u8],
+) -> Taken
     ensures { IsPrefixLen result.count buffer.new }
 {
     if 3 < named {
         return Taken {
             count: 0,
-            good: true,
+            failure: None,
         };
     }
     if i <= named {
-        return command::read_named(i, buffer);
+        return command::read_named(rt, i, buffer);
     }
     if i == 1 {
-        return console::read_input(buffer);
+        return console::read_input(rt, buffer);
     }
     Taken {
         count: 0,
-        good: true,
+        failure: None,
     }
 }
 
-fn main() {
-    let named = command::named();
+fn main(rt: HostRuntime) {
+    let named = command::named(&rt);
     let mut first = [0u8; 32768];
     let mut second = [0u8; 32768];
     let mut third = [0u8; 32768];
-    let one = take_file(1, named, &mut first);
-    if !one.good {
+    let one = take_file(&rt, 1, named, &mut first);
+    if one.failure.is_some() {
         return;
     }
-    let two = take_file(2, named, &mut second);
-    if !two.good {
+    let two = take_file(&rt, 2, named, &mut second);
+    if two.failure.is_some() {
         return;
     }
-    let three = take_file(3, named, &mut third);
-    if !three.good {
+    let three = take_file(&rt, 3, named, &mut third);
+    if three.failure.is_some() {
         return;
     }
     let a = one.count;
     let b = two.count;
     let c = three.count;
-    answer(named, &first[0..a], &second[0..b], &third[0..c]);
+    answer(&rt, named, &first[0..a], &second[0..b], &third[0..c]);
 }

@@ -22,18 +22,18 @@ fn reply(input: &[u8], out: &mut [u8]) -> usize
 }
 
 // Writes the reply for the input.
-fn answer(input: &[u8]) {
+fn answer(rt: &(impl Print + Eprint), input: &[u8]) {
     let mut out = [0u8; PACK_MOST];
     let length = reply(input, &mut out);
-    console::write_output(&out[0..length]);
+    console::write_output(rt, &out[0..length]);
 }
 
-fn main() {
+fn main(rt: HostRuntime) {
     let mut buffer = [0u8; TEXT_MOST];
-    let taken = console::read_input(&mut buffer);
-    if !taken.good {
+    let taken = console::read_input(&rt, &mut buffer);
+    if taken.failure.is_some() {
         return;
     }
     let count = taken.count;
-    answer(&buffer[0..count]);
+    answer(&rt, &buffer[0..count]);
 }

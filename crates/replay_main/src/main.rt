@@ -6,11 +6,12 @@
 ghost use Rattle.std.specs.Prelude.{◌≤◌, length};
 ghost use Rattle.report.specs.Replies.{line_needed, Replied};
 ghost use Rattle.logs.specs.Replying.{replay_reply};
-ghost use Rattle.io.specs.Counts.{IsPrefixLen};
+ghost use Rattle.console.specs.Counts.{IsPrefixLen};
 
 use console::Taken;
 use logs::TEXT_MOST;
 use report::{LINE_NEEDED, Reply};
+use std::rt::{Env, Files};
 
 // Puts what is written with so many arguments at the start of `out`, and answers its length: such a slice is never refused.
 fn reply(named: usize, log: &[u8], placement: &[u8], out: &mut [u8]) -> usize
@@ -24,38 +25,38 @@ fn reply(named: usize, log: &[u8], placement: &[u8], out: &mut [u8]) -> usize
 }
 
 // Writes the reply.
-fn answer(named: usize, log: &[u8], placement: &[u8]) {
+fn answer(rt: &(impl Print + Eprint), named: usize, log: &[u8], placement: &[u8]) {
     let mut out = [0u8; LINE_NEEDED];
     let length = reply(named, log, placement, &mut out);
-    console::write_output(&out[0..length]);
+    console::write_output(rt, &out[0..length]);
 }
 
 // Reads the log where one file is named; nothing else.
-fn take_log(named: usize, buffer: &mut [u8]) -> Taken
+fn take_log(rt: &(impl Env + Files + Eprint + Alloc), named: usize, buffer: &mut [u8]) -> Taken
     ensures { IsPrefixLen result.count buffer.new }
 {
     if named == 1 {
-        return command::read_named(1, buffer);
+        return command::read_named(rt, 1, buffer);
     }
     Taken {
         count: 0,
-        good: true,
+        failure: None,
     }
 }
 
-fn main() {
-    let named = command::named();
+fn main(rt: HostRuntime) {
+    let named = command::named(&rt);
     let mut log = [0u8; TEXT_MOST];
     let mut placement = [0u8; 32768];
-    let first = take_log(named, &mut log);
-    if !first.good {
+    let first = take_log(&rt, named, &mut log);
+    if first.failure.is_some() {
         return;
     }
-    let second = console::read_input(&mut placement);
-    if !second.good {
+    let second = console::read_input(&rt, &mut placement);
+    if second.failure.is_some() {
         return;
     }
     let a = first.count;
     let b = second.count;
-    answer(named, &log[0..a], &placement[0..b]);
+    answer(&rt, named, &log[0..a], &placement[0..b]);
 }

@@ -11,6 +11,7 @@ mod tell;
 mod walks;
 
 use script::{Given, Head, Part};
+use std::io::Read;
 
 // How many entries the longest working slice has.
 const WORK_MOST: usize = 21_000;
@@ -48,17 +49,30 @@ fn called(call: usize, given: Given, input: &[u8], written: &[u8]) -> [usize; 19
 }
 
 // Runs a call on the input, and reads and compares what it is to answer.
-fn run_call(head: Head, given: Given, input: &[u8], written: &[u8]) -> bool {
+fn run_call(
+    reader: &mut impl Read,
+    head: Head,
+    given: Given,
+    input: &[u8],
+    written: &[u8],
+) -> bool {
     let answer = called(head.call, given, input, written);
-    compare::same(answer, script::next_numbers(head.expected))
+    compare::same(answer, script::next_numbers(reader, head.expected))
 }
 
 // Reads bytes, changes one or takes another part of them, as the head says; answers the part that is the input from now on.
-fn prepare(call: usize, given: Given, part: Part, bytes: &mut [u8], written: &mut [u8]) -> Part {
+fn prepare(
+    reader: &mut impl Read,
+    call: usize,
+    given: Given,
+    part: Part,
+    bytes: &mut [u8],
+    written: &mut [u8],
+) -> Part {
     match call {
-        0 => script::read_bytes(bytes, given.a),
+        0 => script::read_bytes(reader, bytes, given.a),
         1 => {
-            script::read_bytes(written, given.a);
+            script::read_bytes(reader, written, given.a);
             part
         }
         2 => {
@@ -74,42 +88,56 @@ fn prepare(call: usize, given: Given, part: Part, bytes: &mut [u8], written: &mu
 
 // Does what the head says; answers the part that is the input from now on.
 fn turn(
+    rt: &impl Print,
+    reader: &mut impl Read,
     head: Head,
     part: Part,
     bytes: &mut [u8],
     written: &mut [u8],
     counts: &mut [usize],
 ) -> Part {
-    let given = script::next_given(head.given);
+    let given = script::next_given(reader, head.given);
     let call = head.call;
     if call < 4 {
-        return prepare(call, given, part, bytes, written);
+        return prepare(reader, call, given, part, bytes, written);
     }
     let input = script::part_of(bytes, part);
-    let good = run_call(head, given, input, script::start_of(written, given.written));
-    tell::count(counts, call, head.kind, good);
+    let good = run_call(
+        reader,
+        head,
+        given,
+        input,
+        script::start_of(written, given.written),
+    );
+    tell::count(rt, counts, call, head.kind, good);
     part
 }
 
 // Runs all vectors.
-fn run(bytes: &mut [u8], written: &mut [u8], counts: &mut [usize]) {
+fn run(
+    rt: &impl Print,
+    reader: &mut impl Read,
+    bytes: &mut [u8],
+    written: &mut [u8],
+    counts: &mut [usize],
+) {
     let mut part = Part { from: 0, to: 0 };
     let mut turns: usize = 0;
     while turns < 1_000_000 {
-        let head = script::next_head();
+        let head = script::next_head(reader);
         if head.call == script::END {
             return;
         }
-        part = turn(head, part, bytes, written, counts);
+        part = turn(rt, reader, head, part, bytes, written, counts);
         turns += 1;
     }
 }
 
 // One byte more than the programs read fits the input.
-fn main() {
+fn main(rt: HostRuntime) {
     let mut bytes = [0u8; 32_769];
     let mut written = [0u8; OUT_MOST];
     let mut counts = [0usize; tell::COUNTS];
-    run(&mut bytes, &mut written, &mut counts);
-    tell::tell_kinds(&counts);
+    run(&rt, &mut rt.reader(), &mut bytes, &mut written, &mut counts);
+    tell::tell_kinds(&rt, &counts);
 }

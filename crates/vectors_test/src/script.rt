@@ -13,7 +13,7 @@
 //   more of its own.
 ghost use Rattle.std.specs.Prelude.{◌≡◌, ◌≤◌, length};
 
-use libc::STDIN_FILENO;
+use std::io::Read;
 
 // The head at the input's end.
 pub(crate) const END: usize = 256;
@@ -48,9 +48,9 @@ pub(crate) struct Part {
     pub to: usize,
 }
 
-// Fills the slice from standard input; false where the input has fewer bytes.
-fn fill(part: &mut [u8]) -> bool {
-    let n = io::read_full(STDIN_FILENO, part);
+// Fills the slice from the input; false where the input has fewer bytes.
+fn fill(reader: &mut impl Read, part: &mut [u8]) -> bool {
+    let n = console::read_all(reader, part).count;
     n == part.len()
 }
 
@@ -59,9 +59,9 @@ fn count_in(byte: u8) -> usize {
 }
 
 // The next head.
-pub(crate) fn next_head() -> Head {
+pub(crate) fn next_head(reader: &mut impl Read) -> Head {
     let mut four = [0u8; 4];
-    if fill(&mut four) {
+    if fill(reader, &mut four) {
         return Head {
             call: count_in(four[0]),
             kind: count_in(four[1]),
@@ -105,28 +105,28 @@ fn numbers_in(bytes: &[u8], count: usize) -> [usize; 19]
 }
 
 // Reads `n` bytes to the start of `bytes`: that part.
-pub(crate) fn read_bytes(bytes: &mut [u8], n: usize) -> Part {
+pub(crate) fn read_bytes(reader: &mut impl Read, bytes: &mut [u8], n: usize) -> Part {
     if n <= bytes.len() {
-        fill(&mut bytes[0..n]);
+        fill(reader, &mut bytes[0..n]);
     }
     Part { from: 0, to: n }
 }
 
 // The next `count` numbers, at most 19, and 0 after them.
-pub(crate) fn next_numbers(count: usize) -> [usize; 19]
+pub(crate) fn next_numbers(reader: &mut impl Read, count: usize) -> [usize; 19]
     ensures { 19 ≡ length result }
 {
     let mut bytes = [0u8; 76];
     if 19 < count {
         return [0; 19];
     }
-    read_bytes(&mut bytes, 4 * count);
+    read_bytes(reader, &mut bytes, 4 * count);
     numbers_in(&bytes, count)
 }
 
 // The numbers that are given.
-pub(crate) fn next_given(count: usize) -> Given {
-    let n = next_numbers(count);
+pub(crate) fn next_given(reader: &mut impl Read, count: usize) -> Given {
+    let n = next_numbers(reader, count);
     let more = [n[9], n[10], n[11], n[12], n[13]];
     Given {
         a: n[0],

@@ -1,5 +1,4 @@
 // Counting the vectors of each call, and printing the counts.
-use libc::STDOUT_FILENO;
 
 // One more than the last call's number.
 const CALLS: usize = 24;
@@ -37,45 +36,45 @@ fn raise(counts: &mut [usize], i: usize) -> usize {
     n + 1
 }
 
-fn say(text: &[u8]) {
-    io::write_all(STDOUT_FILENO, text);
+fn say(rt: &impl Print, text: &str) {
+    let _ = rt.print(text);
 }
 
-fn put(text: &[u8], n: usize) {
-    say(text);
-    io::print_decimal(STDOUT_FILENO, n as u64);
+fn put(rt: &impl Print, text: &str, n: usize) {
+    let _ = print!(rt; "{text}{n}");
 }
 
 // Counts a vector, and says which one does not agree.
-pub(crate) fn count(counts: &mut [usize], call: usize, kind: usize, good: bool) {
+pub(crate) fn count(rt: &impl Print, counts: &mut [usize], call: usize, kind: usize, good: bool) {
     let vector = raise(counts, 0);
     if good {
         raise(counts, place_of(kind, call));
         return;
     }
     raise(counts, place_of(WRONG, call));
-    put(b"\nwrong: ", vector);
+    put(rt, "\nwrong: ", vector);
 }
 
 // The line of a kind: each call's count.
-fn tell_kind(kind: usize, counts: &[usize]) {
+fn tell_kind(rt: &impl Print, kind: usize, counts: &[usize]) {
     let mut call: usize = 4;
-    put(b"\n", kind);
+    put(rt, "\n", kind);
     while call < CALLS {
-        put(b" ", at(counts, place_of(kind, call)));
+        put(rt, " ", at(counts, place_of(kind, call)));
         call += 1;
     }
 }
 
 // The names of the calls, and a line for each kind; the last is that of vectors that do not agree.
-pub(crate) fn tell_kinds(counts: &[usize]) {
+pub(crate) fn tell_kinds(rt: &impl Print, counts: &[usize]) {
     let mut kind: usize = 0;
     say(
-        b"\nkind read_number read_within check_pack check_placement first_crowded write_number plan row_walk check_reply plan_reply curve join plan_operator ask commit worst_case rounds replay page certify",
+        rt,
+        "\nkind read_number read_within check_pack check_placement first_crowded write_number plan row_walk check_reply plan_reply curve join plan_operator ask commit worst_case rounds replay page certify",
     );
     while kind <= WRONG {
-        tell_kind(kind, counts);
+        tell_kind(rt, kind, counts);
         kind += 1;
     }
-    say(b"\n");
+    say(rt, "\n");
 }

@@ -1,28 +1,15 @@
-use native.Mathlib.Omega.{arith}
-use mathlib.Core.Path.{refl, ◌∙◌}
-use Rattle.console.proofs.Counted.{counts-of}
+-- What one read puts after the bytes counted so far is what the reader gave.
+use Rattle.std.proofs.Common.{◌++◌, ◌∙◌, ap, drop, subst, sym, take}
+use Rattle.std.proofs.KnownBytes.{Consumes-trans}
+use Rattle.std.specs.Io.KnownBytes.{Consumes}
+use Rattle.std.proofs.Math.Seq.{take-add}
 use Rattle.console.proofs.read_all.Goals as goal
 
-pub loop-count-init : goal.loop-count-init
-loop-count-init c = (omega arith, refl)
-
-pub shape_of-buffer-then-got-eq0 : goal.shape_of-buffer-then-got-eq0
-shape_of-buffer-then-got-eq0 c =
-    c.read_more-more.auto.buffer ∙ c.loop-count.invariant.1
-
-pub returns-then-got-eq0 : goal.returns-then-got-eq0
-returns-then-got-eq0 c = counts-of _ _ (omega (arith, c.read_more-more.ensures))
-
-pub overflow_add-count : goal.overflow_add-count
-overflow_add-count c = omega (arith, c.read_more-more.ensures)
-
-pub loop-count-smaller : goal.loop-count-smaller
-loop-count-smaller c =
-    omega (arith, c.read_more-more.ensures, c.read_more-more.auto.buffer, c.loop-count.invariant.1)
-
 pub loop-count-preserved : goal.loop-count-preserved
-loop-count-preserved c =
-    (omega (arith, c.read_more-more.ensures), c.read_more-more.auto.buffer ∙ c.loop-count.invariant.1)
-
-pub returns : goal.returns
-returns c = counts-of _ _ (omega arith)
+loop-count-preserved g c =
+    let more = c.read_more-more in
+    let at = c.loop-count.count in
+    let n = more.result.count in
+    let new = more.new.buffer in
+    let joined = ap (λ l. l ++ take n (drop at new)) (sym more.ensures.before) ∙ sym (take-add at n new) in
+    (more.ensures.fits, subst (Consumes _ _) joined (Consumes-trans _ _ _ _ _ c.loop-count.invariant.1 more.ensures.bytes))

@@ -1,11 +1,10 @@
--- `console::read_all` meets its contract: what was read stands within the buffer, whose length stays. Assumes nothing.
-use Prim.Native.Nat.{◌≤◌, ◌-◌}
-use mathlib.Core.Path.{◌≡◌}
-use lib.ListN.{length}
+-- What is counted stands at the buffer's start and was the reader's; each turn leaves fewer bytes to read.
+use Rattle.std.proofs.Common.{length, take, ◌-◌, ◌≤◌}
+use Rattle.std.specs.Io.KnownBytes.{Consumes}
 use Rattle.console.proofs.read_all.Given as goal
 
 abbrev pub invariant-loop-count : goal.invariant-loop-count
-invariant-loop-count l = (l.count ≤ length l.buffer) × (length l.buffer ≡ length l.initial.buffer)
+invariant-loop-count g l = (l.count ≤ length l.buffer) × Consumes (g.R.Read.remaining l.initial.reader) (g.R.Read.remaining l.reader) (take l.count l.buffer)
 
 abbrev pub decreases-loop-count : goal.decreases-loop-count
-decreases-loop-count l = length l.initial.buffer - l.count
+decreases-loop-count g l = length l.initial.buffer - l.count

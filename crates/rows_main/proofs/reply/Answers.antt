@@ -1,0 +1,12 @@
+-- `rows_main::reply` meets its contract: slices of these lengths are long enough, so the reply is written. Assumes nothing.
+use Rattle.report.proofs.Replies.{reply-written, reply-not-refused}
+use Rattle.table.specs.Progress.{pack_most}
+use Rattle.rows_text.specs.Making.{rows_reply}
+use Rattle.replies.proofs.Replying.{into-enough}
+use Rattle.rows_main.proofs.reply.Goals as goal
+
+pub returns-in_default : goal.returns-in_default
+returns-in_default c = absurd (reply-not-refused _ c.rows_reply.ensures (into-enough pack_most (rows_reply c.args.input.now) _ c.requires) c.in_default.is)
+
+pub returns : goal.returns
+returns c = reply-written _ c.rows_reply.ensures (into-enough pack_most (rows_reply c.args.input.now) _ c.requires) c.in-Written.is
