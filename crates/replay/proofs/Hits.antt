@@ -6,7 +6,7 @@ use mathlib.Core.Path.{◌≡◌, refl, sym, ◌∙◌, ap}
 use mathlib.Core.List.{List}
 use lib.ListN.{length, get_or, set, length-set}
 use lib.Dec.{ltb, eqb}
-use Rattle.lists.specs.Lists.{tally, count}
+use Rattle.lists.specs.Lists.{tally}
 use Rattle.lists.proofs.Counts.{count-le-length}
 use Rattle.worst.specs.Records.{few, raised_to, lowered_to}
 use Rattle.worst.specs.Searches.{Named}

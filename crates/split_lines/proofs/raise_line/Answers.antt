@@ -14,9 +14,9 @@ smaller-requires c = tt
 
 pub returns-then-each-lt8192 : goal.returns-then-each-lt8192
 returns-then-each-lt8192 c =
-    raised-by-records c.requires.0 c.requires.1 (rw (← c.smaller.ensures) (omega (arith, c.if-costs-smaller.left))) c.raise_by_records.ensures
+    raised-by-records c.requires.0 c.requires.1 (rw (← c.smaller.ensures) (omega (arith, c.if-costs-smaller.false))) c.raise_by_records.ensures
 
 pub returns-else-each-lt8192 : goal.returns-else-each-lt8192
 returns-else-each-lt8192 c =
-    raised-repeated c.requires.0 c.requires.1 (rw (← c.smaller.ensures) (omega (arith, c.if-costs-smaller.left))) (omega (arith, c.if-each-lt8192.left))
+    raised-repeated c.requires.0 c.requires.1 (rw (← c.smaller.ensures) (omega (arith, c.if-costs-smaller.false))) (omega (arith, c.if-each-lt8192.false))
     c.repeat_line.ensures

@@ -19,9 +19,8 @@ link_rows-requires c = let pre = c.requires in root-to-link pre (enough pre)
 
 pub children-requires : goal.children-requires
 children-requires c =
-    let lengths = c.link_rows.auto.heads in
-    root-to-visit c.requires c.link_rows.ensures 0 c.highest-high.result c.highest-high.ensures lengths.0 lengths.1.0
-    (omega (arith, enough c.requires, lengths.1.1.0))
+    root-to-visit c.requires c.link_rows.ensures 0 c.highest-high.result c.highest-high.ensures c.link_rows.auto.heads c.link_rows.auto.counts
+    (omega (arith, enough c.requires, c.link_rows.auto.next))
 
 pub returns : goal.returns
 returns c =

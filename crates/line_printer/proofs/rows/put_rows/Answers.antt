@@ -1,5 +1,4 @@
 use native.Mathlib.Omega.{arith}
-use Prim.Native.Nat.{◌-◌}
 use Rattle.line_printer.proofs.Turns.{rows_none, rows_all, row_inside, row-few, row_room, rows_next}
 use Rattle.line_printer.proofs.rows.put_rows.Goals as goal
 

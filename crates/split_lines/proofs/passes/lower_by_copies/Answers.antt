@@ -34,17 +34,17 @@ overflow_add-back c =
     let p = c.requires in
     let s = p.0.size-le in
     let h = p.1.small in
-    let g = (ltb-true c.loop-d.back c.args.w c.if-back-w.true) in
+    let g = c.if-back-w.true in
     omega arith
 
 pub overflow_sub-w : goal.overflow_sub-w
-overflow_sub-w c = let g = (ltb-true c.loop-d.back c.args.w c.if-back-w.true) in omega arith
+overflow_sub-w c = let g = c.if-back-w.true in omega arith
 
 pub is_enough-requires : goal.is_enough-requires
 is_enough-requires c =
     let p = c.requires in (
       let h = p.1.small in omega arith,
-      climbable p.0 p.1 p.2 c.loop-d.invariant ((ltb-true c.loop-d.back c.args.w c.if-back-w.true)) (omega (arith, c.smaller-cost.ensures)),
+      climbable p.0 p.1 p.2 c.loop-d.invariant (c.if-back-w.true) (omega (arith, c.smaller-cost.ensures)),
     )
 
 pub shape_of-work-then-is_enough : goal.shape_of-work-then-is_enough
@@ -61,23 +61,23 @@ returns-then-is_enough c =
 pub overflow_add-at : goal.overflow_add-at
 overflow_add-at c =
     let h = c.requires.1.fits in
-    let g = (ltb-true c.loop-d.back c.args.w c.if-back-w.true) in
+    let g = c.if-back-w.true in
     omega (arith, c.well_formed)
 
 pub overflow_sub-w-in-loop-d : goal.overflow_sub-w-in-loop-d
-overflow_sub-w-in-loop-d c = let g = (ltb-true c.loop-d.back c.args.w c.if-back-w.true) in omega arith
+overflow_sub-w-in-loop-d c = let g = c.if-back-w.true in omega arith
 
 pub lower-requires : goal.lower-requires
 lower-requires c =
     let p = c.requires in
-    lowerable p.0 p.1 p.2 c.loop-d.invariant ((ltb-true c.loop-d.back c.args.w c.if-back-w.true)) (omega (arith, c.smaller-cost.ensures))
+    lowerable p.0 p.1 p.2 c.loop-d.invariant (c.if-back-w.true) (omega (arith, c.smaller-cost.ensures))
 
 pub overflow_add-back-in-loop-d : goal.overflow_add-back-in-loop-d
 overflow_add-back-in-loop-d c =
     let p = c.requires in
     let s = p.0.size-le in
     let h = p.1.small in
-    let g = (ltb-true c.loop-d.back c.args.w c.if-back-w.true) in
+    let g = c.if-back-w.true in
     omega arith
 
 pub loop-d-smaller : goal.loop-d-smaller
@@ -86,7 +86,7 @@ loop-d-smaller c = omega (arith, c.loop-d-test.true)
 pub loop-d-preserved : goal.loop-d-preserved
 loop-d-preserved c =
     let p = c.requires in
-    copied_more p.0 p.1 p.2 c.loop-d.invariant c.loop-d-test.true ((ltb-true c.loop-d.back c.args.w c.if-back-w.true)) c.smaller-cost.ensures c.lower.ensures
+    copied_more p.0 p.1 p.2 c.loop-d.invariant c.loop-d-test.true (c.if-back-w.true) c.smaller-cost.ensures c.lower.ensures
 
 pub shape_of-work-else-back-w : goal.shape_of-work-else-back-w
 shape_of-work-else-back-w c = c.loop-d.invariant.same
