@@ -5,7 +5,7 @@ use Rattle.replay_moves.proofs.change.Goals as goal
 
 pub go_down-requires : goal.go_down-requires
 go_down-requires c =
-     record { board_len = c.requires.board_len; counting = c.requires.counting; node_value = c.requires.node_value.0 c.if-down.true; }
+    record { board_len = c.requires.board_len; counting = c.requires.counting; node_value = c.requires.node_value.0 c.if-down.true }
 
 pub shape_of-board-then-down : goal.shape_of-board-then-down
 shape_of-board-then-down c = c.board-1.given
@@ -16,7 +16,7 @@ returns-then-down c =
 
 pub come_up-requires : goal.come_up-requires
 come_up-requires c =
-     record { board_len = c.requires.board_len; counting = c.requires.counting; node_value = c.requires.node_value.1 c.if-down.false; }
+    record { board_len = c.requires.board_len; counting = c.requires.counting; node_value = c.requires.node_value.1 c.if-down.false }
 
 pub shape_of-board : goal.shape_of-board
 shape_of-board c = c.board-2-1.given

@@ -7,17 +7,12 @@ use Rattle.replay.proofs.Moves.{marked-long, marked-ordered, marked-usable, rest
 use Rattle.replay_moves.proofs.come_up.Goals as goal
 
 pub entries_of-entries-requires : goal.entries_of-entries-requires
-entries_of-entries-requires c = let w = (
-      subst (λ n. 257 ≤ n) (sym (marked-long c.args.progress c.args.board.now c.args.node.0 c.requires.board_len.0 c.requires.board_len.1 c.requires.counting 0)) (lit≤ tt),
-      marked-ordered c.args.progress c.args.board.now c.args.node.0 c.requires.board_len.0 c.requires.board_len.1 c.requires.counting 0,
-    ) in record { in_bounds = w.0; node_bound = w.1; }
+entries_of-entries-requires c =
+    record { in_bounds = subst (λ n. 257 ≤ n) (sym (marked-long c.args.progress c.args.board.now c.args.node.0 c.requires.board_len.0 c.requires.board_len.1 c.requires.counting 0)) (lit≤ tt); node_bound = marked-ordered c.args.progress c.args.board.now c.args.node.0 c.requires.board_len.0 c.requires.board_len.1 c.requires.counting 0 }
 
 pub restore-requires : goal.restore-requires
 restore-requires c =
-     record { board_len = (marked-long c.args.progress c.args.board.now c.args.node.0 c.requires.board_len.0 c.requires.board_len.1 c.requires.counting 0, c.requires.counting.b-most); restoring = (
-        restoring c.args.progress c.args.board.now c.args.node.0 c.requires.board_len.0 c.requires.board_len.1 c.requires.counting c.requires.node_value c.entries_of-entries.ensures,
-        marked-usable c.args.progress c.args.board.now c.args.node.0 c.requires.board_len.0 c.requires.board_len.1 c.requires.counting 0,
-      ); usable_value = ; }
+    record { board_len = (marked-long c.args.progress c.args.board.now c.args.node.0 c.requires.board_len.0 c.requires.board_len.1 c.requires.counting 0, c.requires.counting.b-most); restoring = restoring c.args.progress c.args.board.now c.args.node.0 c.requires.board_len.0 c.requires.board_len.1 c.requires.counting c.requires.node_value c.entries_of-entries.ensures; usable_value = marked-usable c.args.progress c.args.board.now c.args.node.0 c.requires.board_len.0 c.requires.board_len.1 c.requires.counting 0 }
 
 pub shape_of-board : goal.shape_of-board
 shape_of-board c =

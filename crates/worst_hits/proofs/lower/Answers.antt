@@ -1,4 +1,3 @@
-use Prim.Native.Nat.{◌-◌}
 use native.Mathlib.Omega.{arith}
 use mathlib.Core.Path.{◌≡◌, refl, ◌∙◌, ap}
 use lib.ListN.{length}
@@ -30,11 +29,10 @@ bounds-hits-i-in-loop-lowered c =
     lower-record c.requires c.loop-lowered-test.true c.record_at-record.ensures c.loop-lowered.invariant.1
 
 pub loop-lowered-preserved : goal.loop-lowered-preserved
-loop-lowered-preserved c =
-    (
-      omega (arith, c.loop-lowered-test.true),
-      lower-next c.requires c.loop-lowered-test.true c.record_at-record.ensures c.loop-lowered.invariant.1,
-    )
+loop-lowered-preserved c = (
+  omega (arith, c.loop-lowered-test.true),
+  lower-next c.requires c.loop-lowered-test.true c.record_at-record.ensures c.loop-lowered.invariant.1,
+)
 
 pub shape_of-hits : goal.shape_of-hits
 shape_of-hits c =

@@ -1,5 +1,4 @@
 use Prim.Native.Nat.{ℕ, ◌-◌, ◌<◌}
-use Prim.Native.Nat.{ℕ, ◌<◌}
 use Rattle.crowding.proofs.VisitChain.{chain-inside, chain-to-count, chain-to-link, node-above, level-to-visit}
 use Rattle.crowding_most.proofs.Grow.{grown-last, grown-one, grown-short, grown-level}
 use Rattle.crowding_most.proofs.Growing.{Growing, growing-start, growing-end, growing-skip, growing-chain, growing-next}
