@@ -1,9 +1,7 @@
 #!/bin/sh
-# Proves and builds `check` into target/programs, with a line for each crate, and checks nine records on seven cabinets: with a figure
-# that is one too high, then with their own. With the argument `plan` it proves and builds `plan` too and plans these records first, with
-# `all` every program.
+# Proves and builds `check` into target/programs, and checks nine records on seven cabinets: with a figure that is one too high, then
+# with their own. With the argument `plan` it proves and builds `plan` too and plans these records first, with `all` every program.
 cd "$(dirname "$0")" || exit 2
-. .ci/machine
 case ${1:-check} in
 check) names=check ;;
 plan) names='check plan' ;;
@@ -13,21 +11,7 @@ all) names='check plan pack table rows listing curve worst page ask commit opera
     exit 2
     ;;
 esac
-mkdir -p target/programs
-log=target/demo.log
-rt check $(for name in $names; do echo "${name}_main"; done) 2>&1 | tee $log | while IFS= read -r line; do
-    case $line in 'rt: '*) printf '%s\n' "$line" ;; esac
-done
-case $(tail -n 1 $log) in
-'rt: ok, '*) ;;
-*)
-    cat $log
-    exit 1
-    ;;
-esac
-for name in $names; do
-    cp "target/bin/${name}_main" "target/programs/$name" || exit 1
-done
+.ci/build $(for name in $names; do echo "${name}_main"; done) || exit 1
 nine=crates/check_main/stdin
 if [ -n "$1" ]; then
     nine=target/nine.placement
