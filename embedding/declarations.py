@@ -4,8 +4,9 @@
     python3 embedding/declarations.py --check    writes nothing; says what differs, and ends with status 1 where something does
 
 Nothing else compares what a C or Rust program declares with what the library has: a wrong declaration links, and goes wrong when it
-runs. So the list, the two files and every exported function of crates/export_*/ are compared here, and the numbers that the files
-name are read from the Rattle source, but for three limits (`sizes`). It needs Python's standard library alone.
+runs. So the list, the two files and every call of crates/export_*/ are compared here, and the numbers that the files name are read
+from the Rattle source, but for three limits (`sizes`); exports.py holds the exports of crates/musseltwig to those calls. It needs
+Python's standard library alone.
 """
 import re
 import sys
@@ -58,15 +59,14 @@ def listed():
 
 
 def exported():
-    """The functions of crates/export_*/ that are exported: crate, name, parameters, and how many numbers are asked of the answer."""
+    """The functions of crates/export_*/ that crates/musseltwig exports, by their names: crate, name, parameters, and how many numbers
+    are asked of the answer."""
     for path in sorted(CRATES.glob("export_*/src/**/*.rt")):
         text = path.read_text()
         crate = path.relative_to(CRATES).parts[0]
-        if text.count('extern "C"') != text.count("#[no_mangle]"):
-            sys.exit(f"{path}: a function that is marked only in part")
-        found = re.findall(r'#\[no_mangle\]\npub extern "C" fn (\w+)\(([^)]*)\) -> usize(.*?)\n}', text, re.S)
-        if len(found) != text.count("#[no_mangle]"):
-            sys.exit(f"{path}: an exported function of another form")
+        found = re.findall(rf'^pub (?:extern "C" )?fn ({PREFIX}_\w+)\(([^)]*)\) -> usize(.*?)\n}}', text, re.S | re.M)
+        if len(found) != len(re.findall(rf"\bfn {PREFIX}_", text)):
+            sys.exit(f"{path}: a call of another form")
         for name, given, rest in found:
             parameters = tuple(tuple(p.strip().split(": ", 1)) for p in given.split(",") if p.strip())
             asked = re.findall(r"if answer\.len\(\) < (\d+) \{\s*return BAD_LENGTH;", rest)

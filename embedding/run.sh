@@ -1,10 +1,11 @@
 #!/bin/sh
 # Everything of the library for C and Rust, from a fresh clone: proves and builds it, holds the declarations to the Rattle source, runs
-# the vectors through C and Rust, the two examples, and README's own commands. It needs rt, Python 3, gcc, ar and cargo, and no network.
+# the vectors through C and Rust, the two examples, and README's own commands. It needs rt, Python 3, gcc and cargo, and no network.
 set -e
 cd "$(dirname "$0")/.."
 made=target/embedding
 python3 embedding/declarations.py --check
+python3 embedding/exports.py --check
 embedding/archive.sh
 sanitize="-std=c11 -O1 -g -Wall -Wextra -Werror -fsanitize=address,undefined -I embedding/include"
 gcc $sanitize embedding/c/vectors.c embedding/c/calls.c $made/libmusseltwig.a -pthread -o $made/vectors
