@@ -2,7 +2,7 @@
 
     python3 bench/calls.py OURS BASELINE [--only TEXT]
 
-OURS has the test program that `rt check vectors_test` builds (target/bin), BASELINE the programs of cargo. Ours are run by the
+OURS has the test program that `.ci/build vectors_test` leaves (target/programs), BASELINE the programs of cargo. Ours are run by the
 test program: a file of many vectors less one of a single vector, and less the same of `read_number` lent an output as long that is to
 be left as it was, which is what the test program itself takes to fill its slices and to compare as many bytes. The baseline's are
 many turns less one.

@@ -2,7 +2,7 @@
 
     python3 bench/growth.py VECTORS_TEST [PICTURE.svg]
 
-VECTORS_TEST is our test program (target/bin/vectors_test). Each call is counted by callgrind at five sizes of what it should grow
+VECTORS_TEST is our test program (target/programs/vectors_test). Each call is counted by callgrind at five sizes of what it should grow
 with, the test program's own work taken off: many vectors of the call less none, and less as many of a call that does nothing. What a
 call on a placement does besides checking it is told from the check, which has its own line (but for `replay`, whose placement is small). In the picture all lines begin at (1, 1):
 to the right how many times the smallest size, upwards how many times the smallest cost, both in doublings, and a thin line where the

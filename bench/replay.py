@@ -1,6 +1,6 @@
 """Measures `replay_code::replay` against the baseline's `replay`: logs of 2,000 events on 4,096 records and fewer.
 
-    python3 bench/replay.py target/bin/vectors_test bench/baseline/target/release/replay
+    python3 bench/replay.py target/programs/vectors_test bench/baseline/target/release/replay
 
 Ours is what the test program takes for CALLS calls with the log less what it takes for as many with an empty log, the baseline's the same:
 so the check of the placement and the list of the records on each node are left out, and 500 calls are 1,000,000 events. Both take

@@ -1,6 +1,6 @@
 """Measures `rounds_code::rounds` against the baseline's `rounds`: its largest case, n = 10, q = 3, b = 256, r = 5, and smaller ones.
 
-    python3 bench/rounds.py target/bin/vectors_test bench/baseline/target/release/rounds
+    python3 bench/rounds.py target/programs/vectors_test bench/baseline/target/release/rounds
 
 Ours is what the test program takes for CALLS calls of `rounds` less what it takes for as many of `check_placement`; the baseline's is
 what it takes for CALLS plays less what it takes for none. Both numbers must agree. Instructions are callgrind's; the time is user time,

@@ -3,7 +3,7 @@
     python3 bench/run.py OURS BASELINE [--check NAME] [--plan NAME] [--join NAME] [--base-check NAME] [--base-plan NAME]
                            [--base-join NAME] [--runs N] [--only TEXT] [--net]
 
-OURS has programs built by `rt` (target/bin), BASELINE those of cargo (bench/baseline/target/release). Each input is given
+OURS has programs built by `rt` (target/programs), BASELINE those of cargo (bench/baseline/target/release). Each input is given
 to both in turn, N times; a run is one whole process, its start included, and the two replies must be equal. The table has
 the medians of user time and of user and system time together (of a process shorter than a clock tick the kernel often
 counts all as one of the two), the instructions counted by callgrind, and those of `perf stat` where the machine counts
@@ -12,7 +12,6 @@ off each number.
 """
 import argparse
 import os
-import platform
 import re
 import shutil
 import statistics
@@ -27,28 +26,13 @@ from inputs import inputs
 NO_REP = ":".join(f"glibc.cpu.x86_rep_{name}_threshold=1000000000" for name in ("stosb", "movsb"))
 
 
-def kit_loader():
-    """The words that run a program under the kit's loader and C library, as `rt` does, or None without a kit."""
-    rt = shutil.which("rt")
-    home = Path(os.environ.get("RATTLE_HOME") or (Path(rt).resolve().parent.parent if rt else "."))
-    library = home / "on" / platform.machine() / "toolchain" / "lib"
-    loader = library / "ld-linux-x86-64.so.2"
-    return [str(loader), "--library-path", str(library)] if loader.exists() else None
-
-
 def words_for(program, data):
-    """The words that run the program: alone where that works here, else under the kit's loader."""
+    """The words that run the program, where it runs here."""
     if not program.is_file():
         sys.exit(f"there is no program {program}")
-    for before in ([], kit_loader()):
-        if before is not None:
-            try:
-                done = subprocess.run(before + [str(program)], input=data, capture_output=True)
-            except OSError:
-                continue
-            if done.returncode == 0:
-                return before + [str(program)]
-    sys.exit(f"{program} does not run here")
+    if subprocess.run([str(program)], input=data, capture_output=True).returncode:
+        sys.exit(f"{program} does not run here")
+    return [str(program)]
 
 
 def run(words, source, reply):
@@ -125,8 +109,8 @@ def main():
     options = argparse.ArgumentParser(description=__doc__.splitlines()[0])
     options.add_argument("ours", type=Path)
     options.add_argument("baseline", type=Path)
-    options.add_argument("--check", default="check_main", help="our program `check`")
-    options.add_argument("--plan", default="plan_main", help="our program `plan`")
+    options.add_argument("--check", default="check", help="our program `check`")
+    options.add_argument("--plan", default="plan", help="our program `plan`")
     options.add_argument("--join", default="join_bench", help="our program that joins three packs")
     options.add_argument("--base-check", default="check", help="the baseline's `check`, or check_sorted")
     options.add_argument("--base-plan", default="plan", help="the baseline's `plan`, or plan_candidates")

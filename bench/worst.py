@@ -2,7 +2,7 @@
 
     python3 bench/worst.py VECTORS_TEST WORST [--runs N]
 
-VECTORS_TEST is our test program (target/bin/vectors_test), which is given as many vectors of the call; WORST is the baseline's
+VECTORS_TEST is our test program (target/programs/vectors_test), which is given as many vectors of the call; WORST is the baseline's
 program `worst`. The vectors' answers are the baseline's, so that both have to agree.
 """
 import argparse

@@ -1,6 +1,6 @@
 """Certifies the placements of other systems, and writes docs/COMPARISON.md's table and docs/comparison.svg.
 
-    rt check vectors_test                          # the proved calls, in target/bin/vectors_test
+    .ci/build vectors_test                         # the proved calls, in target/programs/vectors_test
     python3 comparison/compare.py                  # runs them on every placement, then writes both files
     python3 comparison/compare.py --check          # runs them, and says where a file differs from what would be written
 
@@ -75,7 +75,7 @@ def results(script):
 
 def prove(script):
     """What the proved calls say of the same: vectors_test prints the counts of vectors that agree, and of none that do not."""
-    run = subprocess.run([ROOT / "target/bin/vectors_test"], input=bytes(script.file), capture_output=True, check=True)
+    run = subprocess.run([ROOT / "target/programs/vectors_test"], input=bytes(script.file), capture_output=True, check=True)
     if run.stdout.decode() != "".join(script.lines()):
         sys.exit("the proved calls answer otherwise:\n" + run.stdout.decode())
 

@@ -1,10 +1,9 @@
-"""Prints how large the tree is, and, after `rt ci`, which ten crates took longest: the figures of docs/CHECK-TIMES.md.
+"""Prints how large the tree is: the figures of docs/CHECK-TIMES.md.
 
     python3 docs/figures.py
 
-Sizes are counted in crates/; functions of more than six parameters are named. Times are rt's own lines of the last `rt ci`, in
-whole seconds of wall time with RT_JOBS checks beside each other: `rt: NAME proved (N s)` in target/log/NAME.out and
-`rt: must-fail NAME/EDIT: refused, .. N s)` in target/must-fail/NAME/EDIT.out.
+Sizes are counted in crates/; functions of more than six parameters are named. rt tells no times of its own, so the times of that page
+are those of whole runs.
 """
 import re
 from pathlib import Path
@@ -24,11 +23,6 @@ def lines(pattern):
     return sum(len(path.read_text().splitlines()) for path in CRATES.glob(pattern))
 
 
-def seconds(path):
-    found = re.findall(r"^rt: .*?(\d+) s\)$", path.read_text(), re.MULTILINE)
-    return int(found[0]) if found else 0
-
-
 def main():
     names = sorted(path.parent.parent.name for path in CRATES.glob("*/src/*.rt") if path.name in ("lib.rt", "main.rt"))
     code = list(functions())
@@ -41,17 +35,6 @@ def main():
     print(f"lines: src {lines('*/src/**/*.rt')}, specs {lines('*/specs/**/*.antt')}, proofs {lines('*/proofs/**/*.antt')}")
     many = [f"{crate}::{name} ({len(parameters)})" for crate, name, _, parameters in code if len(parameters) > 6]
     print(f"functions of more than six parameters: {', '.join(many) or 'none'}")
-    took = []
-    for name in names:
-        log = Path("target/log") / f"{name}.out"
-        if log.exists():
-            tried = [Path("target/must-fail") / name / f"{edit.stem}.out" for edit in edits[name]]
-            took.append((seconds(log), sum(seconds(path) for path in tried if path.exists()), len(edits[name]), name))
-    if took:
-        print("\n| crate | proof | edits | all edits |\n|---|---|---|---|")
-        for proof, tried, count, name in sorted(took, key=lambda t: -(t[0] + t[1]))[:10]:
-            print(f"| {name} | {proof} | {count} | {tried} |")
-        print(f"| all {len(took)} | {sum(t[0] for t in took)} | {sum(t[2] for t in took)} | {sum(t[1] for t in took)} |")
 
 
 if __name__ == "__main__":

@@ -6,7 +6,7 @@ COUNT cases in all (2,000 where none is said): orders on random packs of kinds 1
 damaged, and the placements they give for `check`, as kinds 5, 3 and 2, some damaged or with a row that names a node out of service,
 and as kind 6 on random feeders, some damaged, with another figure or with two nodes of a row on one feeder.
 The seed is fresh at each run and printed first, so that a run can be repeated. The programs are those
-that `rt check` builds, target/bin/check_main and target/bin/plan_main.
+that `.ci/build` or `.ci/run` leaves, target/programs/check and target/programs/plan.
 """
 import random
 import secrets
@@ -19,7 +19,7 @@ from document01 import check_placement
 from feeders import of_feeders, two_on_one
 from programs import Programs
 
-BUILT = Path(__file__).resolve().parent.parent / "target" / "bin"
+BUILT = Path(__file__).resolve().parent.parent / "target" / "programs"
 
 
 def run_some(programs, draw):
@@ -48,7 +48,7 @@ def run_some(programs, draw):
 def main(count=2_000, seed=None):
     seed = int(seed) if seed else secrets.randbelow(10 ** 9)
     print(f"seed {seed}", flush=True)
-    draw, programs = random.Random(seed), Programs(BUILT / "check_main", BUILT / "plan_main")
+    draw, programs = random.Random(seed), Programs(BUILT / "check", BUILT / "plan")
     while sum(programs.seen.values()) < int(count):
         run_some(programs, draw)
     sys.exit(programs.tell())

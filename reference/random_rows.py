@@ -5,7 +5,7 @@
 COUNT cases in all (1,000 where none is said): texts of random bare rows, with comments, blanks and zeros in front put in at random, each
 fault in turn, texts damaged by a byte, and the longest that are taken; random files of bare rows, some padded, some damaged, and what is
 printed of them read back. The seed is fresh at each run and printed first, so that a run can be repeated. The programs are those that
-`rt check` builds, target/bin/rows_main and target/bin/listing_main.
+`.ci/build` or `.ci/run` leaves, target/programs/rows and target/programs/listing.
 """
 import sys
 

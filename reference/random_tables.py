@@ -4,8 +4,8 @@
 
 COUNT cases in all (1,000 where none is said): texts of random packs, with comments, blanks and zeros in front put in at random, each
 fault in turn, texts damaged by a byte, and the longest that are taken; random packs of kinds 1 and 4, some damaged, and what is printed
-of them read back. The seed is fresh at each run and printed first, so that a run can be repeated. The programs are those that `rt check`
-builds, target/bin/pack_main and target/bin/table_main.
+of them read back. The seed is fresh at each run and printed first, so that a run can be repeated. The programs are those that `.ci/build`
+or `.ci/run` leaves, target/programs/pack and target/programs/table.
 """
 import random
 import secrets
@@ -16,7 +16,7 @@ from cases import damaged, random_pack
 from programs import Programs
 from table import TEXT_MOST, pack_reply, table_reply
 
-BUILT = Path(__file__).resolve().parent.parent / "target" / "bin"
+BUILT = Path(__file__).resolve().parent.parent / "target" / "programs"
 
 # of refusals 1, 4, 6, 7, 15, 23 and 24: what a line becomes, where it is to be another
 FAULTS = ["", "table 1 2", "table 256 2", "table 7 6", "table 9", "out 255", "out 1 1", "out 0", "out", "mu 0", "mu 4097", "mu", "mu 1 1",
@@ -85,8 +85,8 @@ def run_all(replies, longest, some, count=1_000, seed=None):
     """Runs the built programs of these names, whose replies are expected: the longest inputs, then some at a time."""
     seed = int(seed) if seed else secrets.randbelow(10 ** 9)
     print(f"seed {seed}", flush=True)
-    draw, programs = random.Random(seed), Programs(BUILT / "check_main", BUILT / "plan_main")
-    programs.programs.update({name: (BUILT / f"{name}_main", reply) for name, reply in replies.items()})
+    draw, programs = random.Random(seed), Programs(BUILT / "check", BUILT / "plan")
+    programs.programs.update({name: (BUILT / name, reply) for name, reply in replies.items()})
     longest(programs, draw)
     while sum(programs.seen.values()) < int(count):
         some(programs, draw)

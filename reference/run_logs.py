@@ -5,7 +5,7 @@
 COUNT cases in all (1,000 where none is said), on placements of kinds 2, 3, 5 and 6, some damaged; logs of all lengths up to one event
 too many, with comments and blanks, some with an event out of order, of a node that is not there or in that state already, some with
 a line that can't be read, some with bytes changed. The seed is fresh at each run and printed first. The program is the one that
-`rt check` builds, target/bin/replay_main.
+`.ci/build` or `.ci/run` leaves, target/programs/replay.
 """
 import random
 import secrets

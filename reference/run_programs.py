@@ -3,8 +3,8 @@ the file's own form; their replies are compared.
 
     python3 reference/run_programs.py [COUNT [SEED]]
 
-COUNT cases in all (1,000 where none is said). The seed is fresh at each run and printed first. The programs are those that `rt check`
-builds, target/bin/NAME_main; those that are not there are left out.
+COUNT cases in all (1,000 where none is said). The seed is fresh at each run and printed first. The programs are those that `.ci/build`
+or `.ci/run` leaves, target/programs/NAME; those that are not there are left out.
 """
 import random
 import secrets
@@ -21,7 +21,7 @@ from programs import kind
 from replies import REPLIES, join_reply
 from seven import DARK_NINE, DARK_P, FED_NINE, NINE, NINES, P
 
-BUILT = Path(__file__).resolve().parent.parent / "target" / "bin"
+BUILT = Path(__file__).resolve().parent.parent / "target" / "programs"
 ODD = ("", "x", "-1", "+2", "1 ", "1.0", "0000000001", "9" * 30, "999999999", "007")
 
 
@@ -30,7 +30,7 @@ class Runs:
         self.seen, self.wrong, self.missing = Counter(), 0, set()
 
     def compare(self, name, arguments, data, expected):
-        program = BUILT / f"{name}_main"
+        program = BUILT / name
         if not program.exists():
             self.missing.add(name)
             return
