@@ -141,12 +141,21 @@ def rewrite():
 
 
 def listing():
-    ours, _ = learned()
-    here = standing()
-    for crate, names in sorted(ours.items()):
-        changed = [f"`{old}` → `{new}`" + ("" if new in here else " (gone since)") for old, new in names.items() if old != new]
-        if changed:
-            print(f"\n**{crate}**: {', '.join(changed)}")
+    """What was renamed in specs/ and in the files of lemmas, by crate; a new name that has gone since is left out."""
+    with tempfile.TemporaryDirectory() as one, tempfile.TemporaryDirectory() as other:
+        before_, after = files_of(LANDED, one), files_of(SCRIPTS, other)
+    here, told = standing(), collections.defaultdict(lambda: collections.defaultdict(dict))
+    for path, text in before_.items():
+        parts = path.split("/")
+        if path.endswith(".antt") and path in after and (parts[2] == "specs" or len(parts) == 4):
+            for old, new in side_by_side(declared(text), declared(after[path])):
+                if old != new and new in here and (folded(old) == folded(new) or BY_HAND.get(old) == new):
+                    told[parts[1]][parts[2]][old] = new
+    for crate, kinds in sorted(told.items()):
+        print(f"\n### {crate}\n")
+        for kind in ("specs", "proofs"):
+            if kinds[kind]:
+                print(f"{kind}: " + ", ".join(f"`{old}` → `{new}`" for old, new in sorted(kinds[kind].items())) + ".\n" * (kind == "specs" and bool(kinds["proofs"])))
 
 
 if __name__ == "__main__":

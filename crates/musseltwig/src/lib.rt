@@ -28,7 +28,7 @@ ghost use Rattle.page.specs.Page.{check_page};
 ghost use Rattle.report.specs.Replies.{check_into};
 ghost use Rattle.export_report.specs.Exported.{ReplyExported};
 ghost use Rattle.walk.specs.RowWalk.{open_walk, walk_opened, walk_outcome};
-ghost use Rattle.refusal.specs.Refusals.{result};
+ghost use Rattle.refusal.specs.Refusals.{result as result_of};
 ghost use Rattle.export_walk.specs.Steps.{step_values};
 ghost use Rattle.number.specs.Numbers.{read_number, read_within, write_number};
 ghost use Rattle.number.specs.Answers.{number_read, read_outcome};
@@ -217,10 +217,10 @@ pub extern "C" fn musseltwig_replay(
     downs: &[u8],
     answer: &mut [usize],
 ) -> usize
-    ensures* { λ given. ⌜ Told (replay_stated times.now nodes.now downs.now answer.old)
+    ensures { Told (replay_stated times.now nodes.now downs.now answer.old)
         (replay_outcome (replay_answer
         (check_replay placement.now (events_of times.now nodes.now downs.now))))
-        answer.old answer.new given ⌝ }
+        answer.old answer.new result }
 {
     export_replay::musseltwig_replay(placement, times, nodes, downs, answer)
 }
@@ -250,8 +250,8 @@ pub extern "C" fn musseltwig_check_reply(
 // Opens a row walk: `walk_code::opened`. The answer has 4 numbers: 0, the first row's place, r and b, which a step takes.
 #[unsafe(no_mangle)]
 pub extern "C" fn musseltwig_open_walk(placement: &[u8], answer: &mut [usize]) -> usize
-    ensures* { λ given. ⌜ Told (fits 4 answer.old) (walk_outcome (walk_opened (open_walk placement.now)))
-        answer.old answer.new given ⌝ }
+    ensures { Told (fits 4 answer.old) (walk_outcome (walk_opened (open_walk placement.now)))
+        answer.old answer.new result }
 {
     export_walk::musseltwig_open_walk(placement, answer)
 }
@@ -266,9 +266,9 @@ pub extern "C" fn musseltwig_step(
     left: usize,
     answer: &mut [usize],
 ) -> usize
-    ensures* { λ given. ⌜ Told (fits 6 answer.old)
-        (result (step_values placement.now (record { at = at; r = r; left = left })))
-        answer.old answer.new given ⌝ }
+    ensures { Told (fits 6 answer.old)
+        (result_of (step_values placement.now (record { at = at; r = r; left = left })))
+        answer.old answer.new result }
 {
     export_walk::musseltwig_step(placement, at, r, left, answer)
 }
@@ -276,8 +276,8 @@ pub extern "C" fn musseltwig_step(
 // Reads a number: `number_code::read_number`. The answer has 3 numbers: 0, the value and the next place.
 #[unsafe(no_mangle)]
 pub extern "C" fn musseltwig_read_number(bytes: &[u8], at: usize, answer: &mut [usize]) -> usize
-    ensures* { λ given. ⌜ Told (fits 3 answer.old) (read_outcome (number_read (read_number bytes.now at)))
-        answer.old answer.new given ⌝ }
+    ensures { Told (fits 3 answer.old) (read_outcome (number_read (read_number bytes.now at)))
+        answer.old answer.new result }
 {
     export_number::musseltwig_read_number(bytes, at, answer)
 }
@@ -291,8 +291,8 @@ pub extern "C" fn musseltwig_read_within(
     hi: usize,
     answer: &mut [usize],
 ) -> usize
-    ensures* { λ given. ⌜ Told (fits 3 answer.old) (read_outcome (number_read (read_within lo hi bytes.now at)))
-        answer.old answer.new given ⌝ }
+    ensures { Told (fits 3 answer.old) (read_outcome (number_read (read_within lo hi bytes.now at)))
+        answer.old answer.new result }
 {
     export_number::musseltwig_read_within(bytes, at, lo, hi, answer)
 }
@@ -304,8 +304,8 @@ pub extern "C" fn musseltwig_write_number(
     value: usize,
     answer: &mut [usize],
 ) -> usize
-    ensures* { λ given. ⌜ NumberExported (write_number (length out.old) value)
-        out.old out.new answer.old answer.new given ⌝ }
+    ensures { NumberExported (write_number (length out.old) value)
+        out.old out.new answer.old answer.new result }
 {
     export_number::musseltwig_write_number(out, value, answer)
 }
