@@ -64,7 +64,7 @@ def exported():
     for path in sorted(CRATES.glob("export_*/src/**/*.rt")):
         text = path.read_text()
         crate = path.relative_to(CRATES).parts[0]
-        found = re.findall(rf'^pub (?:extern "C" )?fn ({PREFIX}_\w+)\(([^)]*)\) -> usize(.*?)\n}}', text, re.S | re.M)
+        found = re.findall(rf'^pub fn ({PREFIX}_\w+)\(([^)]*)\) -> usize(.*?)\n}}', text, re.S | re.M)
         if len(found) != len(re.findall(rf"\bfn {PREFIX}_", text)):
             sys.exit(f"{path}: a call of another form")
         for name, given, rest in found:

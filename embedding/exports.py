@@ -21,8 +21,7 @@ HEAD = """\
 #![tactic(auto)]
 
 """
-FUNCTION = re.compile(r'((?:^//[^\n]*\n)*)^(?:#\[unsafe\(no_mangle\)\]\n)?pub (?:extern "C" )?fn (\w+)\(([^)]*)\) -> usize\n((?:(?!^\{).)*)^\{\n',
-                      re.MULTILINE | re.DOTALL)
+FUNCTION = re.compile(r"((?:^//[^\n]*\n)*)^pub fn (\w+)\(([^)]*)\) -> usize\n((?:(?!^\{).)*)^\{\n", re.MULTILINE | re.DOTALL)
 IMPORT = re.compile(r"^ghost use ([\w.]+)\.\{([^}]*)\};", re.MULTILINE)
 
 

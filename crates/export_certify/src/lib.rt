@@ -9,8 +9,7 @@ use exports::BAD_LENGTH;
 
 // Certifies a file of bare rows: `certify_code::certify`. The answer has 8 numbers, as that of `musseltwig_commit`: 0, the length, F and
 // five counts, of which the one of the layer taken is b and the others are 0.
-#[unsafe(no_mangle)]
-pub extern "C" fn musseltwig_certify(rows: &[u8], out: &mut [u8], answer: &mut [usize]) -> usize
+pub fn musseltwig_certify(rows: &[u8], out: &mut [u8], answer: &mut [usize]) -> usize
     ensures { CommitExported (certify_of rows.now (length out.old))
         out.old out.new answer.old answer.new result }
 {

@@ -14,8 +14,7 @@ use exports::BAD_LENGTH;
 
 // Checks a pack: `pack_code::check_pack`. The answer has up to 270 numbers: 0, n, r, the first block's place, mu and m of five
 // layers, how many nodes are out of service, and these.
-#[unsafe(no_mangle)]
-pub extern "C" fn musseltwig_check_pack(pack: &[u8], answer: &mut [usize]) -> usize
+pub fn musseltwig_check_pack(pack: &[u8], answer: &mut [usize]) -> usize
     ensures { Told (fits 270 answer.old) (pack_outcome (pack_checked (read_pack pack.now)))
         answer.old answer.new result }
 {
@@ -28,8 +27,7 @@ pub extern "C" fn musseltwig_check_pack(pack: &[u8], answer: &mut [usize]) -> us
 
 // Checks a placement: `placement_code::check_placement`. The answer has up to 531 numbers: 0, the kind, n, r, s, k, b, F, the first
 // row's place, lambda and c of five layers, how many nodes are out of service, and these; in kind 6 then g and each node's feeder.
-#[unsafe(no_mangle)]
-pub extern "C" fn musseltwig_check_placement(placement: &[u8], answer: &mut [usize]) -> usize
+pub fn musseltwig_check_placement(placement: &[u8], answer: &mut [usize]) -> usize
     ensures { Told (fits 531 answer.old) (placement_outcome (placement_checked (read_placement placement.now)))
         answer.old answer.new result }
 {

@@ -22,8 +22,7 @@ fn tell_joined(joined: Joined, answer: &mut [usize]) -> usize
 }
 
 // Joins one pack: `join_code::join_one`. The answer has 2 numbers: 0 and the joined pack's length.
-#[unsafe(no_mangle)]
-pub extern "C" fn musseltwig_join_one(first: &[u8], out: &mut [u8], answer: &mut [usize]) -> usize
+pub fn musseltwig_join_one(first: &[u8], out: &mut [u8], answer: &mut [usize]) -> usize
     ensures { JoinExported (join_of (first.now ∷ []) (length out.old))
         out.old out.new answer.old answer.new result }
 {
@@ -35,8 +34,7 @@ pub extern "C" fn musseltwig_join_one(first: &[u8], out: &mut [u8], answer: &mut
 }
 
 // Joins two packs: `join_code::join_two`. The answer is that of `musseltwig_join_one`.
-#[unsafe(no_mangle)]
-pub extern "C" fn musseltwig_join_two(
+pub fn musseltwig_join_two(
     first: &[u8],
     second: &[u8],
     out: &mut [u8],
@@ -53,8 +51,7 @@ pub extern "C" fn musseltwig_join_two(
 }
 
 // Joins three packs: `join_code::join_three`. The answer is that of `musseltwig_join_one`.
-#[unsafe(no_mangle)]
-pub extern "C" fn musseltwig_join_three(
+pub fn musseltwig_join_three(
     first: &[u8],
     second: &[u8],
     third: &[u8],

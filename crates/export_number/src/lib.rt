@@ -32,8 +32,7 @@ fn tell_read(read: NumberRead, answer: &mut [usize]) -> usize
 }
 
 // Reads a number: `number_code::read_number`. The answer has 3 numbers: 0, the value and the next place.
-#[unsafe(no_mangle)]
-pub extern "C" fn musseltwig_read_number(bytes: &[u8], at: usize, answer: &mut [usize]) -> usize
+pub fn musseltwig_read_number(bytes: &[u8], at: usize, answer: &mut [usize]) -> usize
     ensures { Told (fits 3 answer.old) (read_outcome (number_read (read_number bytes.now at)))
         answer.old answer.new result }
 {
@@ -45,8 +44,7 @@ pub extern "C" fn musseltwig_read_number(bytes: &[u8], at: usize, answer: &mut [
 }
 
 // Reads a number within limits: `number_code::read_within`. The answer is that of `musseltwig_read_number`.
-#[unsafe(no_mangle)]
-pub extern "C" fn musseltwig_read_within(
+pub fn musseltwig_read_within(
     bytes: &[u8],
     at: usize,
     lo: usize,
@@ -75,12 +73,7 @@ fn tell_written(wrote: NumberWritten, answer: &mut [usize]) -> usize
 }
 
 // Writes a number in its shortest form: `number_writer::write_number`. The answer has 2 numbers: 0 and the bytes written.
-#[unsafe(no_mangle)]
-pub extern "C" fn musseltwig_write_number(
-    out: &mut [u8],
-    value: usize,
-    answer: &mut [usize],
-) -> usize
+pub fn musseltwig_write_number(out: &mut [u8], value: usize, answer: &mut [usize]) -> usize
     ensures { NumberExported (write_number (length out.old) value)
         out.old out.new answer.old answer.new result }
 {

@@ -16,8 +16,7 @@ use rounds::RoundsAnswer;
 use worst::WorstCase;
 
 // The placement's figure for every number of failures: `curve_code::curve`. The answer has 2 numbers: 0 and the entries written.
-#[unsafe(no_mangle)]
-pub extern "C" fn musseltwig_curve(placement: &[u8], out: &mut [u16], answer: &mut [usize]) -> usize
+pub fn musseltwig_curve(placement: &[u8], out: &mut [u16], answer: &mut [usize]) -> usize
     ensures { WritingExported (check_curve placement.now (length out.old))
         out.old out.new answer.old answer.new result }
 {
@@ -29,8 +28,7 @@ pub extern "C" fn musseltwig_curve(placement: &[u8], out: &mut [u16], answer: &m
 }
 
 // The placement's page: `page_code::page`. The answer has 2 numbers: 0 and the bytes written.
-#[unsafe(no_mangle)]
-pub extern "C" fn musseltwig_page(placement: &[u8], out: &mut [u8], answer: &mut [usize]) -> usize
+pub fn musseltwig_page(placement: &[u8], out: &mut [u8], answer: &mut [usize]) -> usize
     ensures { WritingExported (check_page placement.now (length out.old))
         out.old out.new answer.old answer.new result }
 {
@@ -53,12 +51,7 @@ fn tell_fewest(fewest: WorstCase, answer: &mut [usize]) -> usize
 }
 
 // The true worst case: `worst_code::worst_case`. The answer has 2 numbers: 0 and the fewest usable records.
-#[unsafe(no_mangle)]
-pub extern "C" fn musseltwig_worst_case(
-    placement: &[u8],
-    out: &mut [u8],
-    answer: &mut [usize],
-) -> usize
+pub fn musseltwig_worst_case(placement: &[u8], out: &mut [u8], answer: &mut [usize]) -> usize
     ensures { WorstExported (check_worst placement.now (length out.old))
         out.old out.new answer.old answer.new result }
 {
@@ -81,8 +74,7 @@ fn tell_usable(usable: RoundsAnswer, answer: &mut [usize]) -> usize
 }
 
 // Cuts and repairs in turn, q rounds: `rounds_code::rounds`. The answer has 2 numbers: 0 and the usable records.
-#[unsafe(no_mangle)]
-pub extern "C" fn musseltwig_rounds(placement: &[u8], q: usize, answer: &mut [usize]) -> usize
+pub fn musseltwig_rounds(placement: &[u8], q: usize, answer: &mut [usize]) -> usize
     ensures { Told (fits 2 answer.old) (rounds_outcome (rounds_answer (check_rounds placement.now q)))
         answer.old answer.new result }
 {

@@ -15,8 +15,7 @@ use operators::SharedOrder;
 pub use tell::tell_plan;
 
 // Plans b records on a pack: `planner_code::plan`. The answer has 8 numbers: 0, the length, F and five counts.
-#[unsafe(no_mangle)]
-pub extern "C" fn musseltwig_plan(
+pub fn musseltwig_plan(
     pack: &[u8],
     s: usize,
     k: usize,
@@ -37,8 +36,7 @@ pub extern "C" fn musseltwig_plan(
 }
 
 // Plans one operator's records: `operators_code::plan_operator`. The answer is that of `musseltwig_plan`.
-#[unsafe(no_mangle)]
-pub extern "C" fn musseltwig_plan_operator(
+pub fn musseltwig_plan_operator(
     pack: &[u8],
     s: usize,
     k: usize,
@@ -62,8 +60,7 @@ pub extern "C" fn musseltwig_plan_operator(
 }
 
 // What planning would give: `ask_code::ask`. The answer has 12 numbers: 0, F, five counts and five copies.
-#[unsafe(no_mangle)]
-pub extern "C" fn musseltwig_ask(
+pub fn musseltwig_ask(
     pack: &[u8],
     s: usize,
     k: usize,
@@ -83,8 +80,7 @@ pub extern "C" fn musseltwig_ask(
 }
 
 // Writes the placement of the split with these counts: `commit_code::commit`. The answer is that of `musseltwig_plan`.
-#[unsafe(no_mangle)]
-pub extern "C" fn musseltwig_commit(
+pub fn musseltwig_commit(
     pack: &[u8],
     s: usize,
     k: usize,

@@ -36,8 +36,7 @@ fn tell_replayed(replayed: Replayed, answer: &mut [usize]) -> usize
 
 // Runs an outage log against a placement: what `replay_code::replay` gives for these events. The answer has up to 3 numbers: 0, the
 // lowest number of usable records and the first event after which it stood; for an empty log 0 and b.
-#[unsafe(no_mangle)]
-pub extern "C" fn musseltwig_replay(
+pub fn musseltwig_replay(
     placement: &[u8],
     times: &[u32],
     nodes: &[u8],

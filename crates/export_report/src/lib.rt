@@ -22,12 +22,7 @@ fn tell_reply(reply: Reply, answer: &mut [usize]) -> usize
 }
 
 // What the program `check` prints of a placement: `report_check::check_reply`. The answer has 2 numbers: 0 and the line's length.
-#[unsafe(no_mangle)]
-pub extern "C" fn musseltwig_check_reply(
-    placement: &[u8],
-    out: &mut [u8],
-    answer: &mut [usize],
-) -> usize
+pub fn musseltwig_check_reply(placement: &[u8], out: &mut [u8], answer: &mut [usize]) -> usize
     ensures { ReplyExported (check_into placement.now (length out.old))
         out.old out.new answer.old answer.new result }
 {

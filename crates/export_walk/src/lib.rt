@@ -32,8 +32,7 @@ fn tell_opened(opened: WalkOpened, answer: &mut [usize]) -> usize
 }
 
 // Opens a row walk: `walk_code::opened`. The answer has 4 numbers: 0, the first row's place, r and b, which a step takes.
-#[unsafe(no_mangle)]
-pub extern "C" fn musseltwig_open_walk(placement: &[u8], answer: &mut [usize]) -> usize
+pub fn musseltwig_open_walk(placement: &[u8], answer: &mut [usize]) -> usize
     ensures { Told (fits 4 answer.old) (walk_outcome (walk_opened (open_walk placement.now)))
         answer.old answer.new result }
 {
@@ -57,8 +56,7 @@ fn start_of(bytes: &[u8], place: Cursor) -> usize
 
 // A step of a row walk: `walk_rows::row_at` and `moved`. The answer has 6 numbers: 0, where the row begins in the placement and its
 // length, 0 and 0 at the end, and the place, r and what is left for the next step.
-#[unsafe(no_mangle)]
-pub extern "C" fn musseltwig_step(
+pub fn musseltwig_step(
     placement: &[u8],
     at: usize,
     r: usize,
