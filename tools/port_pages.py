@@ -23,7 +23,7 @@ PAGES = ["README.md", "docs/*.md", "docs/changes/*.md", "*/README.md", "*/*.py",
          "embedding/calls.txt"]
 NOT_THESE = {"docs/PORT.md", "docs/port-draft.md", "tools/port_pages.py", "tools/respell.py"}
 NAME = re.compile(r"[A-Za-z_][A-Za-z0-9_'·₀-₉→≢≡≤⊎ᴰ-]*")
-DECLARED = re.compile(r"^ *((?:(?:unfoldable|abbrev|opaque|pub|record|data) )*)([A-Za-z_][A-Za-z0-9_'·₀-₉→≢≡≤⊎ᴰ-]*)(?: [({][^:\n]*:[^\n]*| [\w -]+)? ?:(?= )",
+DECLARED = re.compile(rf"^ *(?:(?:unfoldable|abbrev|opaque|pub|record|data) )*({NAME.pattern})(?: [({{][^:\n]*:[^\n]*| [\w -]+)? ?:(?= )",
                       re.MULTILINE)
 EDIT = re.compile(r"[a-z_]+/[a-z0-9-]+")
 SPAN = re.compile(r"(?<!`)`([^`\n]+)`(?!`)")
@@ -45,7 +45,7 @@ def files_of(commit, folder):
 
 def declared(text):
     """What a file declares, in order: definitions, lemmas, fields and cases."""
-    return [found[1] for found in DECLARED.findall(re.sub(r"^ *--.*$", "", text, flags=re.MULTILINE))]
+    return DECLARED.findall(re.sub(r"^ *--.*$", "", text, flags=re.MULTILINE))
 
 
 def folded(name):
@@ -152,10 +152,11 @@ def listing():
                 if old != new and new in here and (folded(old) == folded(new) or BY_HAND.get(old) == new):
                     told[parts[1]][parts[2]][old] = new
     for crate, kinds in sorted(told.items()):
-        print(f"\n### {crate}\n")
+        print(f"\n### {crate}")
         for kind in ("specs", "proofs"):
             if kinds[kind]:
-                print(f"{kind}: " + ", ".join(f"`{old}` → `{new}`" for old, new in sorted(kinds[kind].items())) + ".\n" * (kind == "specs" and bool(kinds["proofs"])))
+                names = ", ".join(f"`{old}` → `{new}`" for old, new in sorted(kinds[kind].items()))
+                print(f"\n{kind}: {names}.")
 
 
 if __name__ == "__main__":
