@@ -1,4 +1,4 @@
-use Prim.Native.Nat.{◌+◌, ◌-◌, max, ◌<◌}
+use Prim.Native.Nat.{◌+◌, max, ◌<◌}
 use mathlib.Core.Path.{refl, sym, ap, ◌∙◌}
 use lib.ListN.{length, get_or, length-set}
 use Rattle.lists.proofs.Largest.{largest-set}

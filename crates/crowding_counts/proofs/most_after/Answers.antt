@@ -12,7 +12,7 @@ returns-then-w-ne1 c =
     (sym (length-tails c.args.level.r c.args.rows.now c.args.chain.count c.args.next.now c.args.chain.head))
 
 pub count_tails-requires : goal.count_tails-requires
-count_tails-requires c =  record { chain_to_count = c.requires; counts_len = (refl, at-most-zero 256); }
+count_tails-requires c = record { chain_to_count = c.requires; counts_len = (refl, at-most-zero 256) }
 
 pub returns : goal.returns
 returns c =

@@ -1,6 +1,6 @@
 -- `crowding_extremes::lowest` meets its contract: the rest of the chain from the present least row number gives the
 -- answer. Assumes nothing.
-use Prim.Native.Nat.{◌-◌, ◌<◌}
+use Prim.Native.Nat.{◌<◌}
 use mathlib.Core.Path.{◌≡◌}
 use lib.ListN.{length}
 use Rattle.lists.specs.Lists.{All}

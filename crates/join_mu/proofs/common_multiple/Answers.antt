@@ -1,4 +1,3 @@
-use Prim.Native.Nat.{◌-◌}
 use Rattle.join.proofs.Search.{search-first, search-found, search-next, search-past}
 use Rattle.join_mu.proofs.common_multiple.Goals as goal
 

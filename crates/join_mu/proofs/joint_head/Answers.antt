@@ -5,12 +5,12 @@ use Rattle.join_mu.proofs.joint_head.Goals as goal
 
 pub with_mu-rest-requires : goal.with_mu-rest-requires
 with_mu-rest-requires c =
-     record { head_fits = c.requires.head_fits_2; le_rest = omega (arith, with_mu-least _ 1 c.requires.head_fits_3 (omega arith), c.with_mu-last.ensures); rest_bound = omega (arith, c.with_mu-last.ensures); }
+    record { head_fits = c.requires.head_fits_2; le_rest = omega (arith, with_mu-least _ 1 c.requires.head_fits_3 (omega arith), c.with_mu-last.ensures); rest_bound = omega (arith, c.with_mu-last.ensures) }
 
 pub with_mu-mu-requires : goal.with_mu-mu-requires
 with_mu-mu-requires c =
     let least = with_mu-least _ c.with_mu-last.result c.requires.head_fits_2 (omega (arith, with_mu-least _ 1 c.requires.head_fits_3 (omega arith), c.with_mu-last.ensures)) in
-     record { head_fits = c.requires.head_fits; le_rest = omega (arith, least, c.with_mu-rest.ensures); rest_bound = omega (arith, c.with_mu-rest.ensures); }
+    record { head_fits = c.requires.head_fits; le_rest = omega (arith, least, c.with_mu-rest.ensures); rest_bound = omega (arith, c.with_mu-rest.ensures) }
 
 pub overflow_add-size : goal.overflow_add-size
 overflow_add-size c =

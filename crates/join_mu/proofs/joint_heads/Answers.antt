@@ -1,6 +1,5 @@
 use native.Mathlib.Omega.{arith}
 use mathlib.Core.Path.{◌≡◌}
-use Prim.Native.Nat.{◌-◌}
 use Rattle.join.proofs.Heads.{heads-none, next-few, heads-next}
 use Rattle.join_mu.proofs.joint_heads.Goals as goal
 
@@ -10,7 +9,7 @@ loop-x-init c = heads-none _ _ _ _
 pub joint_head-head-requires : goal.joint_head-head-requires
 joint_head-head-requires c =
     let x = c.loop-x.x in
-     record { head_fits = c.requires.heads_fit x; head_fits_2 = c.requires.heads_fit_2 x; head_fits_3 = c.requires.heads_fit_3 x; }
+    record { head_fits = c.requires.heads_fit x; head_fits_2 = c.requires.heads_fit_2 x; head_fits_3 = c.requires.heads_fit_3 x }
 
 pub overflow_add-rows : goal.overflow_add-rows
 overflow_add-rows c =

@@ -11,7 +11,7 @@ returns-then-size-eq0 c = rw c.if-size-eq0.true (omega arith)
 pub common_multiple-requires : goal.common_multiple-requires
 common_multiple-requires c =
     let most = c.requires.head_fits.mu-most in
-     record { le_a = c.requires.head_fits.mu-least (omega arith); le_b = c.requires.le_rest; a_bound = omega arith; b_bound = c.requires.rest_bound; }
+    record { le_a = c.requires.head_fits.mu-least (omega arith); le_b = c.requires.le_rest; a_bound = omega arith; b_bound = c.requires.rest_bound }
 
 pub returns : goal.returns
 returns c =

@@ -1,4 +1,3 @@
-use Prim.Native.Nat.{◌-◌}
 use mathlib.Core.Path.{sym, ◌∙◌, ap}
 use Rattle.number.specs.Numbers.{read_within}
 use Rattle.number.proofs.Within.{was_read, was-refused}

@@ -15,7 +15,7 @@ abbrev nodes : Base → List ℕ
 nodes base = dark_list base.dark
 
 pub write_four-at-requires : goal.write_four-at-requires
-write_four-at-requires c = let w = first-asked (four c.args.kind c.args.base) (nodes c.args.base) c.args.out.now c.requires.all c.requires.base_in_bounds in record { all = w.0; numbers_in_bounds = w.1; }
+write_four-at-requires c = let w = first-asked (four c.args.kind c.args.base) (nodes c.args.base) c.args.out.now c.requires.all c.requires.base_in_bounds in record { all = w.0; numbers_in_bounds = w.1 }
 
 pub slice_bounds-write_nodes-count : goal.slice_bounds-write_nodes-count
 slice_bounds-write_nodes-count c =
@@ -27,7 +27,7 @@ slice_bounds-write_nodes-start c =
 
 pub write_nodes-more-requires : goal.write_nodes-more-requires
 write_nodes-more-requires c =
-     let w = second-asked (four c.args.kind c.args.base) (nodes c.args.base) c.args.out.now c.requires.all c.requires.base_in_bounds c.write_four-at.ensures in record { count_bound = c.requires.count_bound; all = w.0; nodes_in_bounds = w.1; }
+    let w = second-asked (four c.args.kind c.args.base) (nodes c.args.base) c.args.out.now c.requires.all c.requires.base_in_bounds c.write_four-at.ensures in record { count_bound = c.requires.count_bound; all = w.0; nodes_in_bounds = w.1 }
 
 pub overflow_add-result : goal.overflow_add-result
 overflow_add-result c =

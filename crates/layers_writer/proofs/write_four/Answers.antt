@@ -7,7 +7,7 @@ use lib.Seq.{take_all}
 use Rattle.layers_writer.proofs.write_four.Goals as goal
 
 pub write_numbers-requires : goal.write_numbers-requires
-write_numbers-requires c = record { all = rw ((let lent-here : take (4 - 0) (drop 0 c.args.numbers) ≡ c.args.numbers = take_all 4 c.args.numbers (omega arith) in lent-here)) c.requires.all; numbers_in_bounds = rw ((let lent-here : take (4 - 0) (drop 0 c.args.numbers) ≡ c.args.numbers = take_all 4 c.args.numbers (omega arith) in lent-here)) c.requires.numbers_in_bounds; }
+write_numbers-requires c = record { all = rw ((let lent-here : take (4 - 0) (drop 0 c.args.numbers) ≡ c.args.numbers = take_all 4 c.args.numbers (omega arith) in lent-here)) c.requires.all; numbers_in_bounds = rw ((let lent-here : take (4 - 0) (drop 0 c.args.numbers) ≡ c.args.numbers = take_all 4 c.args.numbers (omega arith) in lent-here)) c.requires.numbers_in_bounds }
 
 pub returns : goal.returns
 returns c = rw ((let lent-here : take (4 - 0) (drop 0 c.args.numbers) ≡ c.args.numbers = take_all 4 c.args.numbers (omega arith) in lent-here)) at c.write_numbers.ensures

@@ -7,7 +7,7 @@ use Rattle.layers_writer.proofs.write_nodes.Goals as goal
 pub write_numbers-requires : goal.write_numbers-requires
 write_numbers-requires c =
     let whole : c.args.count - 0 ≡ c.args.count = omega arith in
-    record { all = rw whole c.requires.all; numbers_in_bounds = rw whole c.requires.nodes_in_bounds; }
+    record { all = rw whole c.requires.all; numbers_in_bounds = rw whole c.requires.nodes_in_bounds }
 
 pub returns : goal.returns
 returns c =

@@ -1,5 +1,5 @@
 use Rattle.placement.specs.Figure.{loss, lost_by}
-use Prim.Native.Nat.{◌+◌, ◌-◌, ◌≤◌}
+use Prim.Native.Nat.{◌+◌, ◌≤◌}
 use native.Mathlib.Omega.{arith}
 use lib.ListN.{length}
 use Rattle.placement_figure.proofs.Losses.{LossTurn, loss-holds, lost-le-sizes, loss-done, lambda-most, loss-again}

@@ -1,6 +1,5 @@
 -- `placement_figure::floors_down` meets its contract. The loop's invariant: the floors that are left on w are all of them on
 -- lambda, and no product that is left wraps. Assumes nothing.
-use Prim.Native.Nat.{◌-◌}
 use Rattle.placement_figure.proofs.FloorsDown.{FloorsTurn}
 use Rattle.placement_figure.proofs.floors_down.Given as goal
 

@@ -8,7 +8,7 @@ use Rattle.rows_load.proofs.most_load.Goals as goal
 
 pub node_counts-counts-requires : goal.node_counts-counts-requires
 node_counts-counts-requires c =
-     record { c_bound = c.requires.c_bound; order = rows-ascend c.args.n (rows_at c.args.r c.args.c c.args.rows.now) c.requires.all; }
+    record { c_bound = c.requires.c_bound; order = rows-ascend c.args.n (rows_at c.args.r c.args.c c.args.rows.now) c.requires.all }
 
 pub returns : goal.returns
 returns c =

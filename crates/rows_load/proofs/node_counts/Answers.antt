@@ -11,7 +11,7 @@ use Rattle.rows_load.proofs.node_counts.Goals as goal
 pub count_bytes-requires : goal.count_bytes-requires
 count_bytes-requires c =
     let p = c.requires.c_bound in
-     record { from_le_end = (omega arith, p.2, omega (arith, mul-le-mul p.0 p.1)); counts_len = refl; counted = counts-none; }
+    record { from_le_end = (omega arith, p.2, omega (arith, mul-le-mul p.0 p.1)); counts_len = refl; counted = counts-none }
 
 pub returns : goal.returns
 returns c =

@@ -12,7 +12,7 @@ use Rattle.worst.proofs.Steps.{next-ordered, to-lose, lost-le, last-lower, last-
 use Rattle.worst_last.proofs.choose_last.Goals as goal
 
 pub entries_of-entries-requires : goal.entries_of-entries-requires
-entries_of-entries-requires c = let w = next-ordered c.requires.searching in record { in_bounds = w.0; node_bound = w.1; }
+entries_of-entries-requires c = let w = next-ordered c.requires.searching in record { in_bounds = w.0; node_bound = w.1 }
 
 -- no more are lost than are on the node
 pub returns-then-least-usable : goal.returns-then-least-usable

@@ -1,4 +1,3 @@
-use Prim.Native.Nat.{◌-◌}
 use native.Mathlib.Omega.{arith}
 use mathlib.Core.Path.{refl, ◌∙◌}
 use Rattle.worst.proofs.Steps.{chosen_last}
@@ -9,7 +8,7 @@ pub loop-v-init : goal.loop-v-init
 loop-v-init c = going_start c.requires.searching
 
 pub choose_last-least-requires : goal.choose_last-least-requires
-choose_last-least-requires c =  record { searching = c.loop-v.invariant.here; chosen_value = c.requires.chosen_value; }
+choose_last-least-requires c = record { searching = c.loop-v.invariant.here; chosen_value = c.requires.chosen_value }
 
 pub overflow_sub-n : goal.overflow_sub-n
 overflow_sub-n c = omega (arith, c.loop-v.invariant.here.below)

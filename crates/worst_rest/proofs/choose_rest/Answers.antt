@@ -11,7 +11,7 @@ raise_rest-number-requires c =
     rest-asked c.requires.searching c.requires.next_value
 
 pub lower_rest-requires : goal.lower_rest-requires
-lower_rest-requires c = let w = rest-counted c.requires.searching c.raise_rest-number.ensures c.raise_rest-number.auto.hits c.raise_rest-number.auto.set in record { index = w.0; chosen_le_k = w.1; }
+lower_rest-requires c = let w = rest-counted c.requires.searching c.raise_rest-number.ensures c.raise_rest-number.auto.hits c.raise_rest-number.auto.set in record { index = w.0; chosen_le_k = w.1 }
 
 pub returns-then-least-number : goal.returns-then-least-number
 returns-then-least-number c =

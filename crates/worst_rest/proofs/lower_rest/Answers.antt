@@ -17,7 +17,7 @@ pub bounds-set-place : goal.bounds-set-place
 bounds-set-place c = (let inside-here : c.loop-place.place - 1 < length c.args.set.now = omega (arith, c.loop-place-test.true, c.loop-place.invariant.1, c.requires.chosen_le_k.1) in inside-here)
 
 pub entries_of-entries-requires : goal.entries_of-entries-requires
-entries_of-entries-requires c = let w = node-ordered c.requires.index _ ((let node-here : get_or c.args.set.now (c.loop-place.place - 1) 0 < 256 = omega (arith, c.type_inv.set (c.loop-place.place - 1)) in node-here)) in record { in_bounds = w.0; node_bound = w.1; }
+entries_of-entries-requires c = let w = node-ordered c.requires.index _ ((let node-here : get_or c.args.set.now (c.loop-place.place - 1) 0 < 256 = omega (arith, c.type_inv.set (c.loop-place.place - 1)) in node-here)) in record { in_bounds = w.0; node_bound = w.1 }
 
 pub lower-requires : goal.lower-requires
 lower-requires c =
@@ -29,15 +29,14 @@ pub loop-place-smaller : goal.loop-place-smaller
 loop-place-smaller c = omega (arith, c.loop-place-test.true)
 
 pub loop-place-preserved : goal.loop-place-preserved
-loop-place-preserved c =
-    (
-      omega (arith, c.loop-place-test.true),
-      omega (arith, c.loop-place.invariant.1),
-      c.lower.auto.hits ∙ c.loop-place.invariant.2,
-      leaving-next _ c.requires.index c.args.set.now c.loop-place.hits (c.loop-place.place - 1) c.loop-place.invariant.2 ((let inside-here : c.loop-place.place - 1 < length c.args.set.now = omega (arith, c.loop-place-test.true, c.loop-place.invariant.1, c.requires.chosen_le_k.1) in inside-here)) ((let node-here : get_or c.args.set.now (c.loop-place.place - 1) 0 < 256 = omega (arith, c.type_inv.set (c.loop-place.place - 1)) in node-here)) ((let counted-here : HitsOf c.args.index.now (take (c.loop-place.place - 1 + 1) c.args.set.now) (length c.args.hits.now) c.loop-place.hits = leaving-from c.args.index.now _ c.loop-place.hits c.loop-place.place
-    (omega (arith, c.loop-place-test.true)) c.loop-place.invariant.3 in counted-here))
-          c.entries_of-entries.ensures c.lower.ensures,
-    )
+loop-place-preserved c = (
+  omega (arith, c.loop-place-test.true),
+  omega (arith, c.loop-place.invariant.1),
+  c.lower.auto.hits ∙ c.loop-place.invariant.2,
+  leaving-next _ c.requires.index c.args.set.now c.loop-place.hits (c.loop-place.place - 1) c.loop-place.invariant.2 ((let inside-here : c.loop-place.place - 1 < length c.args.set.now = omega (arith, c.loop-place-test.true, c.loop-place.invariant.1, c.requires.chosen_le_k.1) in inside-here)) ((let node-here : get_or c.args.set.now (c.loop-place.place - 1) 0 < 256 = omega (arith, c.type_inv.set (c.loop-place.place - 1)) in node-here)) ((let counted-here : HitsOf c.args.index.now (take (c.loop-place.place - 1 + 1) c.args.set.now) (length c.args.hits.now) c.loop-place.hits = leaving-from c.args.index.now _ c.loop-place.hits c.loop-place.place
+      (omega (arith, c.loop-place-test.true)) c.loop-place.invariant.3 in counted-here))
+      c.entries_of-entries.ensures c.lower.ensures,
+)
 
 pub shape_of-hits : goal.shape_of-hits
 shape_of-hits c = c.loop-place.invariant.2

@@ -1,6 +1,6 @@
 -- `worst_rest::lower_rest` meets its contract. The loop's invariant: the hits are those of the first `place` nodes of the set.
 -- Assumes nothing.
-use Prim.Native.Nat.{◌-◌, ◌≤◌}
+use Prim.Native.Nat.{◌≤◌}
 use mathlib.Core.Path.{◌≡◌}
 use lib.ListN.{length, take}
 use Rattle.worst.specs.Records.{HitsOf}

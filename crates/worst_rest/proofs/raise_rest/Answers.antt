@@ -1,4 +1,3 @@
-use Prim.Native.Nat.{◌-◌}
 use native.Mathlib.Omega.{arith}
 use Rattle.worst.proofs.Rest.{choosing-start, choosing-node, choosing-place, choosing-ordered, choosing-asks, choosing-next, choosing-end}
 use Rattle.worst_rest.proofs.raise_rest.Goals as goal
@@ -7,11 +6,11 @@ pub loop-place-init : goal.loop-place-init
 loop-place-init c = choosing-start c.requires
 
 pub entries_of-entries-requires : goal.entries_of-entries-requires
-entries_of-entries-requires c = let w = choosing-ordered c.requires c.loop-place.invariant c.loop-place-test.true in record { in_bounds = w.0; node_bound = w.1; }
+entries_of-entries-requires c = let w = choosing-ordered c.requires c.loop-place.invariant c.loop-place-test.true in record { in_bounds = w.0; node_bound = w.1 }
 
 pub raise-usable-requires : goal.raise-usable-requires
 raise-usable-requires c =
-     record { raising = choosing-asks c.requires c.loop-place.invariant c.loop-place-test.true c.entries_of-entries.ensures; usable_value = c.loop-place.invariant.usable-is; }
+    record { raising = choosing-asks c.requires c.loop-place.invariant c.loop-place-test.true c.entries_of-entries.ensures; usable_value = c.loop-place.invariant.usable-is }
 
 pub bounds-set-place : goal.bounds-set-place
 bounds-set-place c =

@@ -1,4 +1,3 @@
-use Prim.Native.Nat.{◌-◌}
 use mathlib.Core.Path.{sym, ◌∙◌}
 use Rattle.crowding.proofs.LinkRows.{rows_start, row_inside, rows-to-link, rows_next, rows-end}
 use native.Mathlib.Omega.{arith}

@@ -1,4 +1,3 @@
-use Prim.Native.Nat.{◌-◌}
 use native.Mathlib.Omega.{arith}
 use Rattle.crowding_pairs.proofs.Cells.{part-start, part_room, part-next, part-all}
 use Rattle.crowding_pairs.proofs.count.count_row.Goals as goal
@@ -12,7 +11,7 @@ overflow_cast-low c = omega (arith, c.type_inv.row c.loop-k.k)
 pub count_after-requires : goal.count_after-requires
 count_after-requires c =
     let byte = (c.type_inv.row c.loop-k.k).fits in
-     record { room = part_room c.loop-k.invariant c.loop-k-test.true ((c)).requires; low_bound = byte; }
+    record { room = part_room c.loop-k.invariant c.loop-k-test.true ((c)).requires; low_bound = byte }
 
 pub loop-k-preserved : goal.loop-k-preserved
 loop-k-preserved c =

@@ -1,4 +1,3 @@
-use Prim.Native.Nat.{◌-◌}
 use native.Mathlib.Omega.{arith}
 use Rattle.crowding_pairs.proofs.Turns.{coded-ten, turns-start, bytes-five, turn-fits, turn-room, turn-next, turns-all}
 use Rattle.crowding_pairs.proofs.rows.count_rows.Goals as goal

@@ -11,7 +11,7 @@ overflow_cast-counts c = omega (arith, c.type_inv.counts (c.loop-node.node - 1))
 
 pub returns-then-counts-node : goal.returns-then-counts-node
 returns-then-counts-node c =
-     record { upper_bound = omega (arith, c.loop-node.invariant.0, c.loop-node-test.true); short_from = λ u le lt. c.loop-node.invariant.1 u (omega (arith, c.loop-node-test.true)) lt; }
+    record { upper_bound = omega (arith, c.loop-node.invariant.0, c.loop-node-test.true); short_from = λ u le lt. c.loop-node.invariant.1 u (omega (arith, c.loop-node-test.true)) lt }
 
 pub loop-node-preserved : goal.loop-node-preserved
 loop-node-preserved c =
@@ -19,4 +19,4 @@ loop-node-preserved c =
 
 pub returns : goal.returns
 returns c =
-     record { upper_bound = omega (arith, c.loop-node-test.false, (c.requires.first_lt_v, c.requires.v_in_bounds)); short_from = λ u le lt. c.loop-node.invariant.1 u (omega arith) lt; }
+    record { upper_bound = omega (arith, c.loop-node-test.false, (c.requires.first_lt_v, c.requires.v_in_bounds)); short_from = λ u le lt. c.loop-node.invariant.1 u (omega arith) lt }

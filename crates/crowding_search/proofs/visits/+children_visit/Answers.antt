@@ -19,9 +19,11 @@ children-loop-v-preserved-then-count-bound t c =
 
 pub children-visit-found-requires : goal.children-visit-found-requires
 children-visit-found-requires t c =
-    let node = (c.next_long-v.ensures.upper_bound, c.next_long-v.ensures.short_from) in
-    (omega (arith, c.decreases), visiting-chain c.requires c.loop-v.invariant node.0 node.1 ((let many-here : c.args.search.bound
-    < get_or c.args.counts.now c.next_long-v.result 0 = omega (arith, c.if-count-bound.false) in many-here)))
+    let node = (c.next_long-v.ensures.upper_bound, c.next_long-v.ensures.short_from) in (
+      omega (arith, c.decreases),
+      visiting-chain c.requires c.loop-v.invariant node.0 node.1 ((let many-here : c.args.search.bound
+          < get_or c.args.counts.now c.next_long-v.result 0 = omega (arith, c.if-count-bound.false) in many-here)),
+    )
 
 pub children-loop-v-preserved : goal.children-loop-v-preserved
 children-loop-v-preserved t c =
@@ -72,11 +74,10 @@ visit-overflow_add-above t c =
     )
 
 pub visit-children-requires : goal.visit-children-requires
-visit-children-requires t c =
-    (
-      omega (arith, c.decreases, (let some-here : 0 < c.args.search.level.w = omega (arith, c.if-w-eq0.false) in some-here)),
-      level-to-visit c.requires ((let some-here : 0 < c.args.search.level.w = omega (arith, c.if-w-eq0.false) in some-here)) c.link_tails-most.ensures c.link_tails-most.auto.heads c.link_tails-most.auto.counts c.link_tails-most.auto.next,
-    )
+visit-children-requires t c = (
+  omega (arith, c.decreases, (let some-here : 0 < c.args.search.level.w = omega (arith, c.if-w-eq0.false) in some-here)),
+  level-to-visit c.requires ((let some-here : 0 < c.args.search.level.w = omega (arith, c.if-w-eq0.false) in some-here)) c.link_tails-most.ensures c.link_tails-most.auto.heads c.link_tails-most.auto.counts c.link_tails-most.auto.next,
+)
 
 pub visit-returns : goal.visit-returns
 visit-returns t c =

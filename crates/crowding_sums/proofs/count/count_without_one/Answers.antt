@@ -1,4 +1,3 @@
-use Prim.Native.Nat.{◌-◌}
 use native.Mathlib.Omega.{arith}
 use Rattle.crowding_sums.proofs.Left.{left-start, left-weight, left-fits, last-next, left-all}
 use Rattle.crowding_sums.proofs.count.count_without_one.Goals as goal

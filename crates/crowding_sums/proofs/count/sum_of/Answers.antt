@@ -1,4 +1,3 @@
-use Prim.Native.Nat.{◌-◌}
 use native.Mathlib.Omega.{arith}
 use Rattle.crowding_sums.proofs.Left.{weigh-next, weigh-end, weigh-le}
 use Rattle.crowding_sums.proofs.count.sum_of.Goals as goal

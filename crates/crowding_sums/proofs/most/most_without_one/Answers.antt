@@ -1,4 +1,3 @@
-use Prim.Native.Nat.{◌-◌}
 use native.Mathlib.Omega.{arith}
 use Rattle.crowding_sums.proofs.Left.{most-start, left-weight, most-one, most-all}
 use Rattle.crowding_sums.proofs.most.most_without_one.Goals as goal

@@ -1,4 +1,3 @@
-use Prim.Native.Nat.{◌-◌}
 use native.Mathlib.Omega.{arith}
 use mathlib.Core.Path.{refl}
 use Rattle.crowding_sums.proofs.Left.{most-start, left-weight, left-look, most-next, most-all}

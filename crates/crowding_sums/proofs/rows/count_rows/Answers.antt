@@ -1,4 +1,3 @@
-use Prim.Native.Nat.{◌-◌}
 use native.Mathlib.Omega.{arith}
 use Rattle.crowding_pairs.proofs.Turns.{turns-start, bytes-five, turn-fits, turn-next, turns-all}
 use Rattle.crowding_sums.specs.Sums.{in_cell}
@@ -17,7 +16,7 @@ slice_bounds-count_row-end c = omega (arith, turn-fits c.loop-i.invariant c.requ
 
 pub count_row-requires : goal.count_row-requires
 count_row-requires c =
-     record { d_bound = omega (arith, c.requires.look.three, c.requires.look.fit.five); room = turn-room c.loop-i.invariant c.requires c.loop-i-test.true; }
+    record { d_bound = omega (arith, c.requires.look.three, c.requires.look.fit.five); room = turn-room c.loop-i.invariant c.requires c.loop-i-test.true }
 
 pub loop-i-preserved : goal.loop-i-preserved
 loop-i-preserved c =

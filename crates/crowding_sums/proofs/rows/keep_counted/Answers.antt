@@ -1,7 +1,5 @@
-use Prim.Native.Nat.{◌-◌}
 use native.Mathlib.Nat.{mul-le-mul}
 use native.Mathlib.Omega.{arith}
-use mathlib.Core.Logic.{⊎_elim}
 use borrow.Author.Tests.{lt-ltb, le-ltb}
 use Rattle.crowding_sums.proofs.Kept.{keeping_start, kept-few, row_fits, row-looked, room-left, keep-fits, keeping-past, keeping-next, keeping_all}
 use Rattle.crowding_sums.proofs.rows.keep_counted.Goals as goal
@@ -23,7 +21,7 @@ slice_bounds-most_of_row-end c =
 pub most_of_row-requires : goal.most_of_row-requires
 most_of_row-requires c =
     let pre = c.requires in
-     record { d_bound = omega (arith, pre.look.three, pre.look.fit.five); looked = row-looked c.loop-i.invariant pre.look.fit.whole pre.room c.loop-i-test.true pre.look; }
+    record { d_bound = omega (arith, pre.look.three, pre.look.fit.five); looked = row-looked c.loop-i.invariant pre.look.fit.whole pre.room c.loop-i-test.true pre.look }
 
 pub slice_bounds-copy_bytes-count : goal.slice_bounds-copy_bytes-count
 slice_bounds-copy_bytes-count c =
@@ -72,13 +70,14 @@ pub loop-i-preserved : goal.loop-i-preserved
 loop-i-preserved c =
     let pre = c.requires in
     let taken = c.loop-i-test.true in
-    elim c.if-most_of_row-bound.branch
-    [ then-most_of_row-bound w ↦ rw (w.kept-is, w.m-is, w.to-is)
-      (keeping-next c.loop-i.invariant pre.look.fit.whole pre.room taken
-      (lt-ltb _ _ (rw c.most_of_row.ensures at w.if-most_of_row-bound.true)) w.copy_bytes.ensures)
-    | else-most_of_row-bound w ↦ rw (w.kept-is, w.m-is, w.to-is)
-      (keeping-past c.loop-i.invariant pre.look.fit.whole pre.room taken
-      (le-ltb _ _ (rw c.most_of_row.ensures at w.if-most_of_row-bound.false))) ]
+    elim c.if-most_of_row-bound.branch [
+      | then-most_of_row-bound w ↦ rw (w.kept-is, w.m-is, w.to-is)
+          (keeping-next c.loop-i.invariant pre.look.fit.whole pre.room taken
+          (lt-ltb _ _ (rw c.most_of_row.ensures at w.if-most_of_row-bound.true)) w.copy_bytes.ensures)
+      | else-most_of_row-bound w ↦ rw (w.kept-is, w.m-is, w.to-is)
+          (keeping-past c.loop-i.invariant pre.look.fit.whole pre.room taken
+          (le-ltb _ _ (rw c.most_of_row.ensures at w.if-most_of_row-bound.false)))
+    ]
 
 pub shape_of-kept : goal.shape_of-kept
 shape_of-kept c = c.loop-i.invariant.same

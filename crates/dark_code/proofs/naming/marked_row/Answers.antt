@@ -1,4 +1,3 @@
-use Prim.Native.Nat.{◌-◌}
 use mathlib.Core.Path.{sym, ap, ◌∙◌}
 use mathlib.Core.Bool.{false}
 use lib.ListN.{get_or}
@@ -29,14 +28,13 @@ returns-then-names_marked c =
     c.loop-j-test.true (sym c.names_marked.ensures ∙ c.if-names_marked.true)))
 
 pub loop-j-preserved : goal.loop-j-preserved
-loop-j-preserved c =
-    (
-      omega arith,
-      omega arith,
-      c.loop-j.invariant.2
-          ∙ found-further (any (λ v. get_or c.args.marks.now v false)) c.args.r c.args.c c.args.rows.now c.loop-j.j c.loop-j.at
-          c.loop-j-test.true (sym c.names_marked.ensures ∙ c.if-names_marked.false),
-    )
+loop-j-preserved c = (
+  omega arith,
+  omega arith,
+  c.loop-j.invariant.2
+      ∙ found-further (any (λ v. get_or c.args.marks.now v false)) c.args.r c.args.c c.args.rows.now c.loop-j.j c.loop-j.at
+      c.loop-j-test.true (sym c.names_marked.ensures ∙ c.if-names_marked.false),
+)
 
 pub returns : goal.returns
 returns c =

@@ -16,11 +16,10 @@ returns-then-marks-v c =
     sym (c.loop-left.invariant.1 ∙ any_here (λ v. get_or c.args.marks.now v false) c.args.row.now c.loop-left.place (omega arith) c.if-marks-v.true)
 
 pub loop-left-preserved : goal.loop-left-preserved
-loop-left-preserved c =
-    (
-      omega arith,
-      c.loop-left.invariant.1 ∙ any-further (λ v. get_or c.args.marks.now v false) c.args.row.now c.loop-left.place (omega arith) c.if-marks-v.false,
-    )
+loop-left-preserved c = (
+  omega arith,
+  c.loop-left.invariant.1 ∙ any-further (λ v. get_or c.args.marks.now v false) c.args.row.now c.loop-left.place (omega arith) c.if-marks-v.false,
+)
 
 pub returns : goal.returns
 returns c =

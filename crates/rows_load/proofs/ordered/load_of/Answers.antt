@@ -1,4 +1,4 @@
-use Prim.Native.Nat.{◌+◌, ◌*◌, ◌-◌, ◌≤◌}
+use Prim.Native.Nat.{◌+◌, ◌*◌, ◌≤◌}
 use native.Mathlib.Nat.{sub-zero, zero-mul, mul-le-mul}
 use native.Mathlib.Omega.{arith}
 use mathlib.Core.Path.{◌≡◌, refl, sym, ap, ◌∙◌}
@@ -34,12 +34,11 @@ pub count_bytes-requires : goal.count_bytes-requires
 count_bytes-requires c =
     let inv = c.loop-j.invariant in
     let p = c.requires in
-     record { from_le_end = (omega arith, omega (arith, (let within-here : (c.loop-j.at + c.args.r ≤ c.args.c * c.args.r) × (c.args.c * c.args.r ≤ 20_480) = (omega (arith, c.loop-j.invariant.1, run-end-le c.args.r c.loop-j-test.true), mul-le-mul c.requires.0 c.requires.1) in within-here), p.2), omega (arith, (let within-here : (c.loop-j.at + c.args.r ≤ c.args.c * c.args.r) × (c.args.c * c.args.r ≤ 20_480) = (omega (arith, c.loop-j.invariant.1, run-end-le c.args.r c.loop-j-test.true), mul-le-mul c.requires.0 c.requires.1) in within-here))); counts_len = inv.3; counted = inv.4; }
+    record { from_le_end = (omega arith, omega (arith, (let within-here : (c.loop-j.at + c.args.r ≤ c.args.c * c.args.r) × (c.args.c * c.args.r ≤ 20_480) = (omega (arith, c.loop-j.invariant.1, run-end-le c.args.r c.loop-j-test.true), mul-le-mul c.requires.0 c.requires.1) in within-here), p.2), omega (arith, (let within-here : (c.loop-j.at + c.args.r ≤ c.args.c * c.args.r) × (c.args.c * c.args.r ≤ 20_480) = (omega (arith, c.loop-j.invariant.1, run-end-le c.args.r c.loop-j-test.true), mul-le-mul c.requires.0 c.requires.1) in within-here))); counts_len = inv.3; counted = inv.4 }
 
 pub loop-j-preserved : goal.loop-j-preserved
 loop-j-preserved c =
-    let turn = c.loop-j-test.true in
-    (
+    let turn = c.loop-j-test.true in (
       omega arith,
       omega (arith, c.loop-j.invariant.1),
       c.loop-j.invariant.2

@@ -55,7 +55,7 @@ slice_bounds-put_nodes-end-2 c =
 
 pub put_nodes-requires : goal.put_nodes-requires
 put_nodes-requires c =
-     record { nodes_in_bounds = omega (arith, room-rows _ _ _ _ _ c.requires.finds c.requires.room c.args.line c.if-layers-eq0.false c.if-found-r.false (omega (arith, c.if-blocks-ge4096.false))); all = nodes-bytes _ _ _ _ _ c.requires.finds c.requires.room c.args.line c.if-layers-eq0.false c.if-found-r.false (omega (arith, c.if-blocks-ge4096.false)) (sym c.in_order.ensures ∙ c.if-not-in_order.false); }
+    record { nodes_in_bounds = omega (arith, room-rows _ _ _ _ _ c.requires.finds c.requires.room c.args.line c.if-layers-eq0.false c.if-found-r.false (omega (arith, c.if-blocks-ge4096.false))); all = nodes-bytes _ _ _ _ _ c.requires.finds c.requires.room c.args.line c.if-layers-eq0.false c.if-found-r.false (omega (arith, c.if-blocks-ge4096.false)) (sym c.in_order.ensures ∙ c.if-not-in_order.false) }
 
 pub bounds-lines-blocks : goal.bounds-lines-blocks
 bounds-lines-blocks c =

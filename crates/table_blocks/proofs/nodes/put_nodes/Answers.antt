@@ -1,4 +1,4 @@
-use Prim.Native.Nat.{◌<◌, ◌-◌}
+use Prim.Native.Nat.{◌<◌}
 use mathlib.Core.Path.{refl, ap, ◌∙◌}
 use lib.ListN.{set, get_or, length-set}
 use Rattle.lists.proofs.Alls.{all_get_d}

@@ -1,4 +1,3 @@
-use Prim.Native.Nat.{◌-◌}
 use Rattle.table_lines.proofs.Looking.{looked-none, looked-here, looked-next, looked-all}
 use Rattle.table_lines.proofs.bytes.first_of.Goals as goal
 

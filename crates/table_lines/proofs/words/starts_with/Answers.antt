@@ -1,4 +1,3 @@
-use Prim.Native.Nat.{◌-◌}
 use mathlib.Core.Path.{refl}
 use Rattle.table_lines.proofs.Looking.{compared-ended, compared-other, compared-next, compared-all}
 use native.Mathlib.Omega.{arith}

@@ -1,4 +1,3 @@
-use Prim.Native.Nat.{◌-◌}
 use mathlib.Core.Path.{refl, sym, ◌∙◌}
 use Rattle.table_steps.proofs.Ordering.{order-low, order-high, order-next, order-end}
 use native.Mathlib.Omega.{arith}

@@ -1,0 +1,7 @@
+-- `join_writer::head::layer_numbers` meets its contract. Assumes nothing.
+use native.Mathlib.Omega.{arith}
+use Rattle.layers.proofs.HeadNumbers.{five-numbers}
+use Rattle.join_writer.proofs.head.layer_numbers.Goals as goal
+
+pub returns : goal.returns
+returns c = rw (← five-numbers c.args.heads (omega arith))

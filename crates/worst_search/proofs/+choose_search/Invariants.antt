@@ -1,0 +1,28 @@
+-- What `worst_search::choose` needs, where `search` holds for smaller measures. Assumes nothing.
+-- What `worst_search::search` needs, where `choose` holds for smaller measures. The loop's invariant: what is found from node v on is
+-- what is to be found, and no more nodes are left than at first. Assumes nothing.
+use Prim.Native.Nat.{ℕ, ◌+◌, ◌*◌, ◌-◌, ◌≤◌}
+use Rattle.worst.proofs.Going.{Going, going_start, going_end, going_next}
+use Rattle.worst.proofs.Kept.{next-kept}
+use Rattle.worst.proofs.Steps.{next-ordered, to-raise, usable-few, to-search, to-lower, chosen_more}
+use borrow.Author.Rules.{rules}
+use lib.ListN.{length-set}
+use mathlib.Core.Path.{refl, ◌∙◌}
+use native.Mathlib.Omega.{arith}
+use Rattle.worst_search.proofs.+choose_search.Given as goal
+
+abbrev pub invariant-search-loop-v : goal.invariant-search-loop-v
+invariant-search-loop-v l =
+    (l.first ≤ l.v)
+    × Going record { n = l.n; k = l.k; s = l.s; next = record { 0 = l.first }; chosen = l.chosen; usable = l.usable; least = l.before }
+    l.index l.initial.hits l.initial.set l.initial.out l.v l.least l.hits l.set l.out
+
+abbrev pub decreases-search-loop-v : goal.decreases-search-loop-v
+decreases-search-loop-v l = l.n - l.v
+
+-- a node is chosen before the search goes on to the next one
+abbrev pub decreases-choose : goal.decreases-choose
+decreases-choose l = 2 * (l.search.n - l.search.next.0)
+
+abbrev pub decreases-search : goal.decreases-search
+decreases-search l = 2 * (l.search.n - l.search.next.0) + 1
