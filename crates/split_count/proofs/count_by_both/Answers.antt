@@ -1,7 +1,8 @@
 use Prim.Native.Nat.{◌+◌, ◌*◌, ◌-◌, ◌%◌, ◌^◌, ◌≤◌, ◌<◌}
 use native.Mathlib.Nat.{le-mul_of_pos_right, mod-lt}
 use mathlib.Core.Path.{◌≡◌, refl, ap, ◌∙◌}
-use Rattle.split.specs.Splits.{last_least}
+use lib.ListN.{get_or}
+use Rattle.split.specs.Splits.{no_split, last_least}
 use Rattle.split.specs.Table.{sum_at, copies_cost, step_loss}
 use Rattle.split.proofs.LayerSteps.{records-lt}
 use Rattle.split_count.proofs.Counting.{Next, next-is, counted_none, counted-more, counted_stop, counted-taken, counted-left}
@@ -65,7 +66,7 @@ overflow_add-c c = omega (arith, c.loop-c-test.true)
 
 pub overflow_mul-c : goal.overflow_mul-c
 overflow_mul-c c = record {
-  fits = let h = (let records-small-here : (c.loop-c.c + 1) * c.args.u.each < 2 ^ 26 = let w = c.requires.within in
+  fits = let h = (let records-small-here : (c.loop-c.c + 1) * c.args.u.each < 2 ^ 26 = let h : (c.loop-c.c + 1) ≤ c.args.left = (omega (arith, c.loop-c-test.true)) in let w = c.requires.within in
       let l = c.requires.small in
       records-lt c.requires.steps (c.loop-c.c + 1) (omega arith) in records-small-here) in omega arith;
 }
@@ -95,7 +96,7 @@ overflow_add-c-in-loop-c c = omega (arith, c.loop-c-test.true)
 
 pub overflow_mul-c-in-loop-c : goal.overflow_mul-c-in-loop-c
 overflow_mul-c-in-loop-c c = record {
-  fits = let h = (let records-small-here : (c.loop-c.c + 1) * c.args.u.each < 2 ^ 26 = let w = c.requires.within in
+  fits = let h = (let records-small-here : (c.loop-c.c + 1) * c.args.u.each < 2 ^ 26 = let h : (c.loop-c.c + 1) ≤ c.args.left = (omega (arith, c.loop-c-test.true)) in let w = c.requires.within in
       let l = c.requires.small in
       records-lt c.requires.steps (c.loop-c.c + 1) (omega arith) in records-small-here) in omega arith;
 }
@@ -105,9 +106,9 @@ next_count-c-requires c = c.loop-c-test.true
 
 pub overflow_mul-c-in-loop-c-2 : goal.overflow_mul-c-in-loop-c-2
 overflow_mul-c-in-loop-c-2 c = record {
-  fits = let h = (let records-small-here : c.next_count-c.result * c.args.u.each < 2 ^ 26 = let w = c.requires.within in
+  fits = let h = (let records-small-here : c.next_count-c.result * c.args.u.each < 2 ^ 26 = let h : c.next_count-c.result ≤ c.args.left = ((let next-here : Next c.requires.steps.size-pos c.loop-c.invariant c.loop-c-test.true ((let room-here : c.loop-c.c < c.loop-c.copies * c.args.u.size = let h = c.loop-c.invariant.held in omega (arith, c.if-copies-size.false) in room-here)) c.next_count-c.result = next-is c.requires.steps.size-pos c.loop-c.invariant c.loop-c-test.true ((let room-here : c.loop-c.c < c.loop-c.copies * c.args.u.size = let h = c.loop-c.invariant.held in omega (arith, c.if-copies-size.false) in room-here)) c.requires.rising c.requires.within c.next_count-c.ensures in next-here)).upto in let w = c.requires.within in
       let l = c.requires.small in
-      records-lt c.requires.steps c.next_count-c.result (omega arith) in records-small-here).upto in omega arith;
+      records-lt c.requires.steps c.next_count-c.result (omega arith) in records-small-here) in omega arith;
 }
 
 pub smaller-requires-in-loop-c : goal.smaller-requires-in-loop-c
@@ -123,14 +124,14 @@ pub bounds-below-left-in-loop-c : goal.bounds-below-left-in-loop-c
 bounds-below-left-in-loop-c c = let w = c.requires.within in omega arith
 
 pub overflow_cast-loss : goal.overflow_cast-loss
-overflow_cast-loss c = let h = (c.requires.rising.marked _) in omega arith
+overflow_cast-loss c = let h = (let below-small-here : get_or c.args.below.now (c.args.left - c.next_count-c.result) 0 ≤ no_split = c.requires.rising.marked _ in below-small-here) in omega arith
 
 pub overflow_add-loss : goal.overflow_add-loss
 overflow_add-loss c =
-    let h = (c.requires.rising.marked _) in
-    let g = (let records-small-here : c.next_count-c.result * c.args.u.each < 2 ^ 26 = let w = c.requires.within in
+    let h = (let below-small-here : get_or c.args.below.now (c.args.left - c.next_count-c.result) 0 ≤ no_split = c.requires.rising.marked _ in below-small-here) in
+    let g = (let records-small-here : c.next_count-c.result * c.args.u.each < 2 ^ 26 = let h : c.next_count-c.result ≤ c.args.left = ((let next-here : Next c.requires.steps.size-pos c.loop-c.invariant c.loop-c-test.true ((let room-here : c.loop-c.c < c.loop-c.copies * c.args.u.size = let h = c.loop-c.invariant.held in omega (arith, c.if-copies-size.false) in room-here)) c.next_count-c.result = next-is c.requires.steps.size-pos c.loop-c.invariant c.loop-c-test.true ((let room-here : c.loop-c.c < c.loop-c.copies * c.args.u.size = let h = c.loop-c.invariant.held in omega (arith, c.if-copies-size.false) in room-here)) c.requires.rising c.requires.within c.next_count-c.ensures in next-here)).upto in let w = c.requires.within in
     let l = c.requires.small in
-    records-lt c.requires.steps c.next_count-c.result (omega arith) in records-small-here).upto in
+    records-lt c.requires.steps c.next_count-c.result (omega arith) in records-small-here) in
     omega (arith, c.smaller-in-loop-c.ensures)
 
 pub loop-c-smaller-then-loss-least : goal.loop-c-smaller-then-loss-least

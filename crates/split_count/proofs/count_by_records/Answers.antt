@@ -2,7 +2,8 @@ use Prim.Native.Nat.{◌+◌, ◌*◌, ◌-◌, ◌^◌, ◌≤◌, ◌<◌}
 use native.Mathlib.Nat.{le_refl, lt_of_le_of_lt, mul-le-mul, sub-zero}
 use mathlib.Core.Path.{◌≡◌, refl, ap, ◌∙◌}
 use lib.Dec.{lit<}
-use Rattle.split.specs.Splits.{last_least}
+use lib.ListN.{get_or}
+use Rattle.split.specs.Splits.{no_split, last_least}
 use Rattle.split.specs.Table.{sum_at}
 use Rattle.split_count.proofs.Scans.{scan-none, scan-taken, scan-left}
 use native.Mathlib.Omega.{arith}
@@ -25,10 +26,10 @@ overflow_mul-loss c = record {
 }
 
 pub overflow_cast-loss : goal.overflow_cast-loss
-overflow_cast-loss c = let h = (c.requires.3.marked _) in omega arith
+overflow_cast-loss c = let h = (let below-small-here : get_or c.args.below.now (c.args.left - (c.loop-c.c + 1)) 0 ≤ no_split = c.requires.3.marked _ in below-small-here) in omega arith
 
 pub overflow_add-loss : goal.overflow_add-loss
-overflow_add-loss c = let h = (c.requires.3.marked _) in let g = (let records-small-here : (c.loop-c.c + 1) * c.args.each < 2 ^ 26 = let p = c.requires in
+overflow_add-loss c = let h = (let below-small-here : get_or c.args.below.now (c.args.left - (c.loop-c.c + 1)) 0 ≤ no_split = c.requires.3.marked _ in below-small-here) in let g = (let records-small-here : (c.loop-c.c + 1) * c.args.each < 2 ^ 26 = let p = c.requires in
     let h = p.2 in
     let l = p.1 in
     let n : c.loop-c.c + 1 ≤ 4_097 = omega (arith, c.loop-c-test.true) in

@@ -35,11 +35,10 @@ choose-overflow_add-next t c =
     omega (arith, p.below, p.n-most)
 
 pub choose-search-least-requires : goal.choose-search-least-requires
-choose-search-least-requires t c =
-    (
-      omega (arith, c.decreases, c.requires.searching.below),
-      record { searching = to-search c.requires.searching c.entries_of-entries.ensures c.raise-usable.ensures c.requires.chosen_bound; light = c.requires.light },
-    )
+choose-search-least-requires t c = (
+  omega (arith, c.decreases, c.requires.searching.below),
+  record { searching = to-search c.requires.searching c.entries_of-entries.ensures c.raise-usable.ensures c.requires.chosen_bound; light = c.requires.light },
+)
 
 pub choose-lower-requires : goal.choose-lower-requires
 choose-lower-requires t c =

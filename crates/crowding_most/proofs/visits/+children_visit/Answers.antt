@@ -65,7 +65,7 @@ visit-overflow_add-above t c =
 pub visit-children-requires : goal.visit-children-requires
 visit-children-requires t c = (
   omega (arith, c.decreases, (let some-here : 0 < c.args.search.level.w = omega (arith, c.if-w-eq0.false) in some-here)),
-  level-to-visit c.requires ((let some-here : 0 < c.args.search.level.w = omega (arith, c.if-w-eq0.false) in some-here)) c.link_tails-longest.ensures c.link_tails-most.auto.heads c.link_tails-most.auto.counts c.link_tails-most.auto.next,
+  level-to-visit c.requires ((let some-here : 0 < c.args.search.level.w = omega (arith, c.if-w-eq0.false) in some-here)) c.link_tails-longest.ensures c.link_tails-longest.auto.heads c.link_tails-longest.auto.counts c.link_tails-longest.auto.next,
 )
 
 pub visit-returns : goal.visit-returns

@@ -14,21 +14,18 @@ children-overflow_cast-count t c = omega (arith, c.type_inv.counts c.next_long-v
 
 pub children-loop-v-preserved-then-count-bound : goal.children-loop-v-preserved-then-count-bound
 children-loop-v-preserved-then-count-bound t c =
-    let node = (c.next_long-v.ensures.upper_bound, c.next_long-v.ensures.short_from) in
-    visiting-skip c.requires c.loop-v.invariant node.0 node.1 (omega (arith, c.if-count-bound.true))
+    visiting-skip c.requires c.loop-v.invariant c.next_long-v.ensures.upper_bound c.next_long-v.ensures.short_from (omega (arith, c.if-count-bound.true))
 
 pub children-visit-found-requires : goal.children-visit-found-requires
 children-visit-found-requires t c =
-    let node = (c.next_long-v.ensures.upper_bound, c.next_long-v.ensures.short_from) in (
       omega (arith, c.decreases),
-      visiting-chain c.requires c.loop-v.invariant node.0 node.1 ((let many-here : c.args.search.bound
+      visiting-chain c.requires c.loop-v.invariant c.next_long-v.ensures.upper_bound c.next_long-v.ensures.short_from ((let many-here : c.args.search.bound
           < get_or c.args.counts.now c.next_long-v.result 0 = omega (arith, c.if-count-bound.false) in many-here)),
     )
 
 pub children-loop-v-preserved : goal.children-loop-v-preserved
 children-loop-v-preserved t c =
-    let node = (c.next_long-v.ensures.upper_bound, c.next_long-v.ensures.short_from) in
-    visiting-next c.requires c.loop-v.invariant node.0 node.1 ((let many-here : c.args.search.bound
+    visiting-next c.requires c.loop-v.invariant c.next_long-v.ensures.upper_bound c.next_long-v.ensures.short_from ((let many-here : c.args.search.bound
     < get_or c.args.counts.now c.next_long-v.result 0 = omega (arith, c.if-count-bound.false) in many-here)) c.visit-found.ensures
     c.visit-found.auto.next
 

@@ -1,4 +1,3 @@
-use Prim.Native.Nat.{◌-◌}
 use mathlib.Core.Path.{refl}
 use lib.ListN.{length-replicate}
 use Rattle.logs_code.proofs.Turns.{unread-in, long-unread, turn-start, turn_end, end-within, turn-unreadable, turn-nothing, turn-full, turn-event}

@@ -1,4 +1,3 @@
-use Prim.Native.Nat.{◌-◌}
 use native.Mathlib.Omega.{arith}
 use mathlib.Core.Path.{◌≡◌, refl, ◌∙◌, ap}
 use lib.Seq.{sets}
@@ -21,13 +20,12 @@ put_node_field-requires c =
     (omega (arith, c.requires.0, c.loop-j.invariant.1), c.requires.2)
 
 pub loop-j-preserved : goal.loop-j-preserved
-loop-j-preserved c =
-    (
-      search rules,
-      c.put_node_field.auto.out ∙ c.loop-j.invariant.1,
-      c.put_node_field.ensures
-          ∙ joined-next (node_field c.args.row.now) 4 c.args.out.now c.args.at c.loop-j.j (λ j less. length-node_field c.args.row.now c.requires.1 j) c.loop-j.invariant.2,
-    )
+loop-j-preserved c = (
+  search rules,
+  c.put_node_field.auto.out ∙ c.loop-j.invariant.1,
+  c.put_node_field.ensures
+      ∙ joined-next (node_field c.args.row.now) 4 c.args.out.now c.args.at c.loop-j.j (λ j less. length-node_field c.args.row.now c.requires.1 j) c.loop-j.invariant.2,
+)
 
 pub returns : goal.returns
 returns c =

@@ -1,6 +1,6 @@
 use Prim.Native.Nat.{◌+◌, ◌-◌, ◌%◌}
 use lib.Dec.{eqb}
-use borrow.Author.Tests.{ltb-true, ltb-false}
+use borrow.Author.Tests.{ltb-false}
 use Rattle.lists.specs.Lists.{count, up_to}
 use Rattle.split.specs.Working.{climbs}
 use Rattle.split_lines.proofs.Climbing.{none_found}
