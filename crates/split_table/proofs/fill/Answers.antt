@@ -34,7 +34,7 @@ overflow_mul-x c =
     let e = f.filled.same_length ∙ ((let base-filled-here : Filled c.args.layers c.args.order.s c.args.order.k (c.args.order.b + 1) 1 c.args.work.now c.base_line.new.work = let p = c.requires in
     filled-base c.args.layers c.args.order.s c.args.order.k (c.args.order.b + 1) (lines_fit c.args.order.s c.args.order.b _ p.1)
     p.0.s-pos c.base_line.ensures in base-filled-here)).same_length in
-    omega (arith, c.good)
+    omega (arith, c.well_formed)
 
 pub raise_line-requires : goal.raise_line-requires
 raise_line-requires c = (

@@ -1,8 +1,6 @@
-use Prim.Native.Nat.{ℕ, ◌-◌, ◌≤◌}
-use Rattle.worst.proofs.Going.{Going, going_start, going_end, going_next}
+use Rattle.worst.proofs.Going.{going_start, going_end, going_next}
 use Rattle.worst.proofs.Kept.{next-kept}
 use Rattle.worst.proofs.Steps.{next-ordered, to-raise, usable-few, to-search, to-lower, chosen_more}
-use borrow.Author.Rules.{rules}
 use lib.ListN.{length-set}
 use mathlib.Core.Path.{refl, ◌∙◌}
 use native.Mathlib.Omega.{arith}
@@ -37,7 +35,7 @@ choose-overflow_add-next t c =
 pub choose-search-least-requires : goal.choose-search-least-requires
 choose-search-least-requires t c = (
   omega (arith, c.decreases, c.requires.searching.below),
-  record { searching = to-search c.requires.searching c.entries_of-entries.ensures c.raise-usable.ensures c.requires.chosen_bound; light = c.requires.light },
+  (to-search c.requires.searching c.entries_of-entries.ensures c.raise-usable.ensures c.requires.chosen_bound, c.requires.light),
 )
 
 pub choose-lower-requires : goal.choose-lower-requires
@@ -118,7 +116,7 @@ search-returns-then-n-v t c =
 pub search-choose-least-requires : goal.search-choose-least-requires
 search-choose-least-requires t c =
     let p = c.loop-v.invariant.1.here in
-    (omega (arith, c.decreases, c.loop-v.invariant.0), record { searching = p; light = c.requires.light; chosen_bound = omega (arith, p.more, c.if-more-eq1.false, c.if-more-eq2.false) })
+    (omega (arith, c.decreases, c.loop-v.invariant.0), (p, (c.requires.light, omega (arith, p.more, c.if-more-eq1.false, c.if-more-eq2.false))))
 
 pub search-overflow_add-v : goal.search-overflow_add-v
 search-overflow_add-v t c =

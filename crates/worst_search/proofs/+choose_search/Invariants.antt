@@ -1,14 +1,8 @@
 -- What `worst_search::choose` needs, where `search` holds for smaller measures. Assumes nothing.
 -- What `worst_search::search` needs, where `choose` holds for smaller measures. The loop's invariant: what is found from node v on is
 -- what is to be found, and no more nodes are left than at first. Assumes nothing.
-use Prim.Native.Nat.{ℕ, ◌+◌, ◌*◌, ◌-◌, ◌≤◌}
-use Rattle.worst.proofs.Going.{Going, going_start, going_end, going_next}
-use Rattle.worst.proofs.Kept.{next-kept}
-use Rattle.worst.proofs.Steps.{next-ordered, to-raise, usable-few, to-search, to-lower, chosen_more}
-use borrow.Author.Rules.{rules}
-use lib.ListN.{length-set}
-use mathlib.Core.Path.{refl, ◌∙◌}
-use native.Mathlib.Omega.{arith}
+use Prim.Native.Nat.{◌+◌, ◌*◌, ◌-◌, ◌≤◌}
+use Rattle.worst.proofs.Going.{Going}
 use Rattle.worst_search.proofs.+choose_search.Given as goal
 
 abbrev pub invariant-search-loop-v : goal.invariant-search-loop-v

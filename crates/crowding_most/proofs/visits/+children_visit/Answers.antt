@@ -1,8 +1,7 @@
-use Prim.Native.Nat.{ℕ, ◌-◌, ◌<◌}
+use Prim.Native.Nat.{◌-◌, ◌<◌}
 use Rattle.crowding.proofs.VisitChain.{chain-inside, chain-to-count, chain-to-link, node-above, level-to-visit}
 use Rattle.crowding_most.proofs.Grow.{grown-last, grown-one, grown-short, grown-level}
-use Rattle.crowding_most.proofs.Growing.{Growing, growing-start, growing-end, growing-skip, growing-chain, growing-next}
-use borrow.Author.Rules.{rules}
+use Rattle.crowding_most.proofs.Growing.{growing-start, growing-end, growing-skip, growing-chain, growing-next}
 use lib.ListN.{get_or}
 use native.Mathlib.Omega.{arith}
 use Rattle.crowding_most.proofs.visits.+children_visit.Goals as goal

@@ -1,12 +1,7 @@
 -- What `crowding_most::visits::children` needs, where `visit` holds for smaller measures. Assumes nothing.
 -- What `crowding_most::visits::visit` needs, where `children` holds for smaller measures. Assumes nothing.
-use Prim.Native.Nat.{ℕ, ◌-◌, ◌<◌, ◌+◌, ◌*◌}
-use Rattle.crowding.proofs.VisitChain.{chain-inside, chain-to-count, chain-to-link, node-above, level-to-visit}
-use Rattle.crowding_most.proofs.Grow.{grown-last, grown-one, grown-short, grown-level}
-use Rattle.crowding_most.proofs.Growing.{Growing, growing-start, growing-end, growing-skip, growing-chain, growing-next}
-use borrow.Author.Rules.{rules}
-use lib.ListN.{get_or}
-use native.Mathlib.Omega.{arith}
+use Prim.Native.Nat.{◌+◌, ◌*◌}
+use Rattle.crowding_most.proofs.Growing.{Growing}
 use Rattle.crowding_most.proofs.visits.+children_visit.Given as goal
 
 abbrev pub invariant-children-loop-v : goal.invariant-children-loop-v

@@ -19,4 +19,4 @@ loop-node-preserved c =
 
 pub returns : goal.returns
 returns c =
-    record { upper_bound = omega (arith, c.loop-node-test.false, (c.requires.first_lt_v, c.requires.v_in_bounds)); short_from = λ u le lt. c.loop-node.invariant.1 u (omega arith) lt }
+    record { upper_bound = omega (arith, c.loop-node-test.false, c.requires.first_lt_v, c.requires.v_in_bounds); short_from = λ u le lt. c.loop-node.invariant.1 u (omega arith) lt }

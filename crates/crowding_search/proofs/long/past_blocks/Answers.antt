@@ -4,7 +4,7 @@ use Rattle.crowding_search.proofs.Short.{short-block}
 use Rattle.crowding_search.proofs.long.past_blocks.Goals as goal
 
 pub loop-end-init : goal.loop-end-init
-loop-end-init c = (omega (arith, (c.requires.first_lt_v, c.requires.v_in_bounds)), (omega arith, λ u le lt. absurd (omega arith)))
+loop-end-init c = (omega (arith, c.requires.first_lt_v, c.requires.v_in_bounds), (omega arith, λ u le lt. absurd (omega arith)))
 
 pub returns-then-most_of-bound : goal.returns-then-most_of-bound
 returns-then-most_of-bound c = let w = c.loop-end.invariant in record { lower_bound = w.0; upper_bound = w.1.0; short_from = w.1.1 }

@@ -1,6 +1,6 @@
 -- `crowding_search::long::past_blocks` meets its contract. The loop's invariant: no chain passed is longer than the bound.
 -- Assumes nothing.
-use Prim.Native.Nat.{◌-◌, ◌≤◌, ◌<◌}
+use Prim.Native.Nat.{◌≤◌, ◌<◌}
 use Rattle.crowding.specs.Chains.{ShortFrom}
 use Rattle.crowding_search.proofs.long.past_blocks.Given as goal
 

@@ -1,7 +1,6 @@
-use Prim.Native.Nat.{ℕ, ◌<◌}
+use Prim.Native.Nat.{◌<◌}
 use Rattle.crowding.proofs.VisitChain.{row-some, chain-inside, chain-entries, visited-last, chain-to-count, visited-few, chain-to-link, visited-short, node-above, level-to-visit, visited-level}
-use Rattle.crowding.proofs.VisitLevel.{Visiting, visiting-start, visiting-end, visiting-skip, visiting-chain, visiting-next}
-use borrow.Author.Rules.{rules}
+use Rattle.crowding.proofs.VisitLevel.{visiting-start, visiting-end, visiting-skip, visiting-chain, visiting-next}
 use lib.ListN.{get_or}
 use native.Mathlib.Omega.{arith}
 use Rattle.crowding_search.proofs.visits.+children_visit.Goals as goal
@@ -17,11 +16,11 @@ children-loop-v-preserved-then-count-bound t c =
     visiting-skip c.requires c.loop-v.invariant c.next_long-v.ensures.upper_bound c.next_long-v.ensures.short_from (omega (arith, c.if-count-bound.true))
 
 pub children-visit-found-requires : goal.children-visit-found-requires
-children-visit-found-requires t c =
-      omega (arith, c.decreases),
-      visiting-chain c.requires c.loop-v.invariant c.next_long-v.ensures.upper_bound c.next_long-v.ensures.short_from ((let many-here : c.args.search.bound
-          < get_or c.args.counts.now c.next_long-v.result 0 = omega (arith, c.if-count-bound.false) in many-here)),
-    )
+children-visit-found-requires t c = (
+  omega (arith, c.decreases),
+  visiting-chain c.requires c.loop-v.invariant c.next_long-v.ensures.upper_bound c.next_long-v.ensures.short_from ((let many-here : c.args.search.bound
+      < get_or c.args.counts.now c.next_long-v.result 0 = omega (arith, c.if-count-bound.false) in many-here)),
+)
 
 pub children-loop-v-preserved : goal.children-loop-v-preserved
 children-loop-v-preserved t c =

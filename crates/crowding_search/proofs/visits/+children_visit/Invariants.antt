@@ -1,11 +1,7 @@
 -- What `crowding_search::visits::children` needs, where `visit` holds for smaller measures. Assumes nothing.
 -- What `crowding_search::visits::visit` needs, where `children` holds for smaller measures. Assumes nothing.
-use Prim.Native.Nat.{ℕ, ◌<◌, ◌+◌, ◌*◌}
-use Rattle.crowding.proofs.VisitChain.{row-some, chain-inside, chain-entries, visited-last, chain-to-count, visited-few, chain-to-link, visited-short, node-above, level-to-visit, visited-level}
-use Rattle.crowding.proofs.VisitLevel.{Visiting, visiting-start, visiting-end, visiting-skip, visiting-chain, visiting-next}
-use borrow.Author.Rules.{rules}
-use lib.ListN.{get_or}
-use native.Mathlib.Omega.{arith}
+use Prim.Native.Nat.{◌+◌, ◌*◌}
+use Rattle.crowding.proofs.VisitLevel.{Visiting}
 use Rattle.crowding_search.proofs.visits.+children_visit.Given as goal
 
 abbrev pub invariant-children-loop-v : goal.invariant-children-loop-v
