@@ -1,4 +1,6 @@
 // The arguments that a program was started with, and the files that they name.
+//
+// Functions take the runtime itself and not its traits, so that a program reaches no call of the system but those that are made here.
 #![tactic(auto)]
 
 ghost use Rattle.std.specs.Prelude.{◌+◌, ◌≤◌, length};
@@ -6,8 +8,10 @@ ghost use Rattle.console.specs.Counts.{IsPrefixLen};
 
 use console::Taken;
 use std::env::FillError;
+use std::fs::OpenOptions;
+use std::io::Write;
 use std::rt::{Env, Files};
-use std::{fs, io, str};
+use std::{io, str};
 
 // How many bytes of an argument are looked at: no number has so many digits.
 const LONGEST: usize = 16;
@@ -15,8 +19,11 @@ const LONGEST: usize = 16;
 // How many bytes of a file's name are taken: the system opens none of so many.
 const NAME_MOST: usize = 4096;
 
+// How many bytes an error's text has room for: the system's texts are shorter.
+const REASON_MOST: usize = 128;
+
 // How many arguments there are, the program's own name among them.
-fn arg_count(rt: &impl Env) -> usize {
+fn arg_count(rt: &HostRuntime) -> usize {
     let mut none = [0u8; 0];
     for i in 0..usize::MAX {
         if let Err(FillError::NotPresent) = rt.arg(i, &mut none) {
@@ -27,7 +34,7 @@ fn arg_count(rt: &impl Env) -> usize {
 }
 
 // Puts argument i at the start of `word` and answers its length; of a longer one as much as there is room for.
-fn fetch(rt: &impl Env, i: usize, word: &mut [u8]) -> usize
+fn fetch(rt: &HostRuntime, i: usize, word: &mut [u8]) -> usize
     ensures { result ≤ length word.new }
 {
     match rt.arg(i, word) {
@@ -38,7 +45,7 @@ fn fetch(rt: &impl Env, i: usize, word: &mut [u8]) -> usize
 }
 
 // Puts argument i at `at`, with a byte 0 after it, and answers the place after that.
-fn put_argument(rt: &impl Env, i: usize, text: &mut [u8], at: usize) -> usize
+fn put_argument(rt: &HostRuntime, i: usize, text: &mut [u8], at: usize) -> usize
     requires { at + 17 ≤ length text.old }
     ensures { result ≤ at + 17 }
 {
@@ -50,7 +57,7 @@ fn put_argument(rt: &impl Env, i: usize, text: &mut [u8], at: usize) -> usize
 
 // Puts the arguments into `text` as far as it reaches, each with a byte 0 after it, of a longer one its first 16 bytes; answers how
 // many bytes these are.
-pub fn arguments(rt: &impl Env, text: &mut [u8]) -> usize
+pub fn arguments(rt: &HostRuntime, text: &mut [u8]) -> usize
     ensures { IsPrefixLen result text.new }
 {
     let count = arg_count(rt);
@@ -67,7 +74,7 @@ pub fn arguments(rt: &impl Env, text: &mut [u8]) -> usize
 }
 
 // How many arguments there are, the program's own name not counted.
-pub fn named(rt: &impl Env) -> usize {
+pub fn named(rt: &HostRuntime) -> usize {
     let count = arg_count(rt);
     if count == 0 {
         return 0;
@@ -84,21 +91,21 @@ fn without_number(text: &str) -> &str {
 }
 
 // Says on standard error what failed, and why.
-fn fail(rt: &(impl Eprint + Alloc), what: &str, e: io::Error) {
-    let _ = match e.to_string(rt.alloc()) {
-        Ok(text) => {
-            let why = without_number(text.as_str());
-            eprintln!(rt; "{what}: {why}")
-        }
-        Err(_) => eprintln!(rt; "{what}: {e}"),
-    };
+fn fail(rt: &impl Eprint, what: &str, e: io::Error) {
+    let mut text = io::Cursor::new([0u8; REASON_MOST]);
+    let _ = write!(text, "{e}");
+    let end = text.position() as usize;
+    let bytes = text.into_inner();
+    let written = bytes.get(..end).unwrap_or(&bytes[..]);
+    let why = without_number(str::from_utf8(written).unwrap_or(""));
+    let _ = eprintln!(rt; "{what}: {why}");
 }
 
 // Reads the file of that name, and says where it can't.
-fn read_file(rt: &(impl Files + Eprint + Alloc), name: &str, buffer: &mut [u8]) -> Taken
+fn read_file(rt: &HostRuntime, name: &str, buffer: &mut [u8]) -> Taken
     ensures { IsPrefixLen result.count buffer.new }
 {
-    match fs::open(rt, name) {
+    match rt.open_file(OpenOptions::new().read(true), name) {
         Ok(mut file) => {
             let taken = console::read_all(&mut file, buffer);
             if let Some(e) = taken.failure {
@@ -127,7 +134,7 @@ fn refuse_name(rt: &impl Eprint, name: &[u8]) -> io::Error {
 }
 
 // Reads the file that argument i names, and says where it can't.
-pub fn read_named(rt: &(impl Env + Files + Eprint + Alloc), i: usize, buffer: &mut [u8]) -> Taken
+pub fn read_named(rt: &HostRuntime, i: usize, buffer: &mut [u8]) -> Taken
     ensures { IsPrefixLen result.count buffer.new }
 {
     let mut name = [0u8; NAME_MOST];

@@ -64,12 +64,15 @@ pub fn read_all<R: Read>(reader: &mut R, buffer: &mut [u8]) -> Taken
     }
 }
 
-// Reads standard input, and says where it can't.
-pub fn read_input(rt: &(impl Input + Eprint), buffer: &mut [u8]) -> Taken
-    ensures { IsPrefixLen result.count buffer.new }
+// Reads standard input, which is the reader, and says where it can't.
+pub fn read_input<R: Read>(rt: &impl Eprint, reader: &mut R, buffer: &mut [u8]) -> Taken
+    ensures counted { IsPrefixLen result.count buffer.new }
+    ensures bytes { Consumes (R.remaining reader.old) (R.remaining reader.new)
+        (take result.count buffer.new) }
+    ensures end { IsNone result.failure → result.count < length buffer.new
+        → IsAtEnd (R.remaining reader.new) }
 {
-    let mut reader = rt.reader();
-    let taken = read_all(&mut reader, buffer);
+    let taken = read_all(reader, buffer);
     if taken.failure.is_some() {
         let _ = rt.eprint("standard input can't be read\n");
     }

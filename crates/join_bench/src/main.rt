@@ -68,7 +68,7 @@ fn packs(rt: &impl Print, input: &[u8]) {
 
 fn main(rt: HostRuntime) {
     let mut buffer = [0u8; 32768];
-    let taken = console::read_all(&mut rt.reader(), &mut buffer);
+    let taken = console::read_all(&mut rt.stdin(), &mut buffer);
     let n = taken.count;
     packs(&rt, &buffer[0..n]);
 }

@@ -11,7 +11,6 @@ ghost use Rattle.call_replies.specs.Join.{join_reply};
 use console::Taken;
 use replies::OUTPUT_MOST;
 use report::Reply;
-use std::rt::{Env, Files};
 
 // Puts what is written for so many named files at the start of `out`, and answers its length: such a slice is never refused.
 fn reply(named: usize, first: &[u8], second: &[u8], third: &[u8], out: &mut [u8]) -> usize
@@ -35,12 +34,7 @@ fn answer(rt: &(impl Print + Eprint), named: usize, first: &[u8], second: &[u8],
 
 // Reads file i of those that are named, or standard input as the first where none is; nothing where there is no such file, or where
 // more than three are named.
-fn take_file(
-    rt: &(impl Input + Env + Files + Eprint + Alloc),
-    i: usize,
-    named: usize,
-    buffer: &mut [u8],
-) -> Taken
+fn take_file(rt: &HostRuntime, i: usize, named: usize, buffer: &mut [u8]) -> Taken
     ensures { IsPrefixLen result.count buffer.new }
 {
     if 3 < named {
@@ -53,7 +47,7 @@ fn take_file(
         return command::read_named(rt, i, buffer);
     }
     if i == 1 {
-        return console::read_input(rt, buffer);
+        return console::read_input(rt, &mut rt.stdin(), buffer);
     }
     Taken {
         count: 0,

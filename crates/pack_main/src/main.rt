@@ -30,7 +30,7 @@ fn answer(rt: &(impl Print + Eprint), input: &[u8]) {
 
 fn main(rt: HostRuntime) {
     let mut buffer = [0u8; TEXT_MOST];
-    let taken = console::read_input(&rt, &mut buffer);
+    let taken = console::read_input(&rt, &mut rt.stdin(), &mut buffer);
     if taken.failure.is_some() {
         return;
     }

@@ -11,7 +11,6 @@ ghost use Rattle.console.specs.Counts.{IsPrefixLen};
 use console::Taken;
 use logs::TEXT_MOST;
 use report::{LINE_NEEDED, Reply};
-use std::rt::{Env, Files};
 
 // Puts what is written with so many arguments at the start of `out`, and answers its length: such a slice is never refused.
 fn reply(named: usize, log: &[u8], placement: &[u8], out: &mut [u8]) -> usize
@@ -32,7 +31,7 @@ fn answer(rt: &(impl Print + Eprint), named: usize, log: &[u8], placement: &[u8]
 }
 
 // Reads the log where one file is named; nothing else.
-fn take_log(rt: &(impl Env + Files + Eprint + Alloc), named: usize, buffer: &mut [u8]) -> Taken
+fn take_log(rt: &HostRuntime, named: usize, buffer: &mut [u8]) -> Taken
     ensures { IsPrefixLen result.count buffer.new }
 {
     if named == 1 {
@@ -52,7 +51,7 @@ fn main(rt: HostRuntime) {
     if first.failure.is_some() {
         return;
     }
-    let second = console::read_input(&rt, &mut placement);
+    let second = console::read_input(&rt, &mut rt.stdin(), &mut placement);
     if second.failure.is_some() {
         return;
     }

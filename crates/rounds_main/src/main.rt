@@ -30,7 +30,7 @@ fn main(rt: HostRuntime) {
     let mut words = [0u8; 272];
     let size = command::arguments(&rt, &mut words);
     let mut buffer = [0u8; 32768];
-    let taken = console::read_input(&rt, &mut buffer);
+    let taken = console::read_input(&rt, &mut rt.stdin(), &mut buffer);
     if taken.failure.is_some() {
         return;
     }

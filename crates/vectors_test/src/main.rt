@@ -138,6 +138,6 @@ fn main(rt: HostRuntime) {
     let mut bytes = [0u8; 32_769];
     let mut written = [0u8; OUT_MOST];
     let mut counts = [0usize; tell::COUNTS];
-    run(&rt, &mut rt.reader(), &mut bytes, &mut written, &mut counts);
+    run(&rt, &mut rt.stdin(), &mut bytes, &mut written, &mut counts);
     tell::tell_kinds(&rt, &counts);
 }
