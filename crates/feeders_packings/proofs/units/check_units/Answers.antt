@@ -66,7 +66,16 @@ first_load-load-requires c =
     }
 
 pub check_packings-requires : goal.check_packings-requires
-check_packings-requires c = record { packings_asked = (first_load-load-requires c) κs; counted = c.first_load-load.ensures }
+check_packings-requires c = record {
+  packings_asked = record {
+    few = c.requires.rows_asked.few;
+    r-most = c.requires.rows_asked.r-most;
+    rows-most = c.requires.rows_asked.rows-most;
+    within = c.requires.r_in_bounds;
+    ordered = units-ascend c.args.number c.args.r c.args.at _ (take c.args.layers c.args.heads) c.args.fed.now _ ((let part-here : take (length c.args.fed.now - c.args.at) (drop c.args.at c.args.fed.now) ≡ drop c.args.at c.args.fed.now = take-drop-rest c.args.fed.now c.args.at in part-here)) c.count_rows-rows.ensures _ c.first_bad-shared.ensures c.in_default.is;
+  };
+  counted = c.first_load-load.ensures;
+}
 
 pub returns : goal.returns
 returns c =
