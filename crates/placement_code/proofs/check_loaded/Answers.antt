@@ -14,7 +14,7 @@ use Rattle.placement_code.proofs.check_loaded.Goals as goal
 
 pub returns-in-Refused : goal.returns-in-Refused
 returns-in-Refused c = let w = handed-refused c.refuse.ensures
-    (placement-no-base _ (base-refused (read_base PlacementKind _) c.read_base-head.ensures c.in-Refused.is)) in record { check_value = w.0; handed = w.1; }
+    (placement-no-base _ (base-refused (read_base PlacementKind _) c.read_base-head.ensures c.in-Refused.is)) in record { check_value = w.0; handed = w.1 }
 
 pub read_terms-read-requires : goal.read_terms-read-requires
 read_terms-read-requires c =
@@ -25,7 +25,7 @@ returns-in-Refused-read_verdict c = let w = handed-refused c.refuse-in-Refused-r
     (no-terms _ ((let base-of-here : let head = c.read_base-head.result in
     read_base PlacementKind c.args.bytes.now
     ≡ accepted (record { kind = head.kind; base = site_of head.base; next = head.next }) = ((let good-base-here : BaseGood PlacementKind c.args.bytes.now c.read_base-head.result = base-good PlacementKind _ c.read_base-head.ensures c.in_default.is in good-base-here)).accepts in base-of-here))
-    (terms-refused (read_terms _ _ _) c.read_terms-read.ensures c.in-Refused-read_verdict.is)) in record { check_value = w.0; handed = w.1; }
+    (terms-refused (read_terms _ _ _) c.read_terms-read.ensures c.in-Refused-read_verdict.is)) in record { check_value = w.0; handed = w.1 }
 
 pub read_layers-numbers-requires : goal.read_layers-numbers-requires
 read_layers-numbers-requires c =
@@ -45,7 +45,7 @@ returns-in-Refused-numbers_verdict c = let w = handed-refused c.refuse-in-Refuse
     let head = c.read_base-head.result in
     read_terms (site_of head.base) c.args.bytes.now head.next
     ≡ accepted (record { terms = read.terms; next = read.next }) = terms-good _ c.read_terms-read.ensures c.in_default-read_verdict.is in terms-of-here))
-    (layers-refused _ _ _ _ _ c.read_layers-numbers.ensures c.in-Refused-numbers_verdict.is)) in record { check_value = w.0; handed = w.1; }
+    (layers-refused _ _ _ _ _ c.read_layers-numbers.ensures c.in-Refused-numbers_verdict.is)) in record { check_value = w.0; handed = w.1 }
 
 pub check_records-loaded-requires : goal.check_records-loaded-requires
 check_records-loaded-requires c =
@@ -82,7 +82,7 @@ returns-in-Refused-rows_verdict c = let w = handed-refused c.refuse-in-Refused-r
     read_terms (site_of head.base) c.args.bytes.now head.next
     ≡ accepted (record { terms = read.terms; next = read.next }) = terms-good _ c.read_terms-read.ensures c.in_default-read_verdict.is in terms-of-here)) in
     layers-good _ _ _ _ _ c.read_layers-numbers.ensures c.in_default-numbers_verdict.is (omega (arith, limits.1.s-most, limits.0.r-most)) in layers-of-here))
-    (records-refused (check_records _ _ _ _ _ _) c.check_records-loaded.ensures.records_value c.in-Refused-rows_verdict.is)) in record { check_value = w.0; handed = w.1; }
+    (records-refused (check_records _ _ _ _ _ _) c.check_records-loaded.ensures.records_value c.in-Refused-rows_verdict.is)) in record { check_value = w.0; handed = w.1 }
 
 pub figure_of-requires : goal.figure_of-requires
 figure_of-requires c = let w = figure-asked _ ((let base-of-here : let head = c.read_base-head.result in
@@ -99,7 +99,7 @@ figure_of-requires c = let w = figure-asked _ ((let base-of-here : let head = c.
     let head = c.read_base-head.result in
     read_terms (site_of head.base) c.args.bytes.now head.next
     ≡ accepted (record { terms = read.terms; next = read.next }) = terms-good _ c.read_terms-read.ensures c.in_default-read_verdict.is in terms-of-here)) in
-    layers-good _ _ _ _ _ c.read_layers-numbers.ensures c.in_default-numbers_verdict.is (omega (arith, limits.1.s-most, limits.0.r-most)) in layers-of-here)) in record { s_bound = w.0; all = w.1; }
+    layers-good _ _ _ _ _ c.read_layers-numbers.ensures c.in_default-numbers_verdict.is (omega (arith, limits.1.s-most, limits.0.r-most)) in layers-of-here)) in record { s_bound = w.0; all = w.1 }
 
 pub returns-then-t-figure_of : goal.returns-then-t-figure_of
 returns-then-t-figure_of c = let w = handed-refused c.refuse-then-t-figure_of.ensures
@@ -119,7 +119,7 @@ returns-then-t-figure_of c = let w = handed-refused c.refuse-then-t-figure_of.en
     ≡ accepted (record { terms = read.terms; next = read.next }) = terms-good _ c.read_terms-read.ensures c.in_default-read_verdict.is in terms-of-here)) in
     layers-good _ _ _ _ _ c.read_layers-numbers.ensures c.in_default-numbers_verdict.is (omega (arith, limits.1.s-most, limits.0.r-most)) in layers-of-here))
     (records-good (check_records _ _ _ _ _ _) c.check_records-loaded.ensures.records_value c.in_default-rows_verdict.is).1
-    (c.figure_of.ensures ∙ rw c.rule_of-rule.ensures refl) c.if-t-figure_of.true) in record { check_value = w.0; handed = w.1; }
+    (c.figure_of.ensures ∙ rw c.rule_of-rule.ensures refl) c.if-t-figure_of.true) in record { check_value = w.0; handed = w.1 }
 
 pub returns : goal.returns
 returns c =
@@ -129,20 +129,23 @@ returns c =
     ≡ accepted (record { kind = head.kind; base = site_of head.base; next = head.next }) = ((let good-base-here : BaseGood PlacementKind c.args.bytes.now c.read_base-head.result = base-good PlacementKind _ c.read_base-head.ensures c.in_default.is in good-base-here)).accepts in base-of-here)) ((let terms-of-here : let read = c.read_terms-read.result in
     let head = c.read_base-head.result in
     read_terms (site_of head.base) c.args.bytes.now head.next
-    ≡ accepted (record { terms = read.terms; next = read.next }) = terms-good _ c.read_terms-read.ensures c.in_default-read_verdict.is in terms-of-here)) in  record { check_value = right-figure _ ((let base-of-here : let head = c.read_base-head.result in
-    read_base PlacementKind c.args.bytes.now
-    ≡ accepted (record { kind = head.kind; base = site_of head.base; next = head.next }) = ((let good-base-here : BaseGood PlacementKind c.args.bytes.now c.read_base-head.result = base-good PlacementKind _ c.read_base-head.ensures c.in_default.is in good-base-here)).accepts in base-of-here)) ((let terms-of-here : let read = c.read_terms-read.result in
-    let head = c.read_base-head.result in
-    read_terms (site_of head.base) c.args.bytes.now head.next
-    ≡ accepted (record { terms = read.terms; next = read.next }) = terms-good _ c.read_terms-read.ensures c.in_default-read_verdict.is in terms-of-here)) ((let layers-of-here : let read = c.read_terms-read.result in
-    LayersGood placement_layer_limits read.terms.s read.terms.b
-    c.args.bytes.now
-    read.next c.read_layers-numbers.result = let limits = order-limits _ ((let base-of-here : let head = c.read_base-head.result in
-    read_base PlacementKind c.args.bytes.now
-    ≡ accepted (record { kind = head.kind; base = site_of head.base; next = head.next }) = ((let good-base-here : BaseGood PlacementKind c.args.bytes.now c.read_base-head.result = base-good PlacementKind _ c.read_base-head.ensures c.in_default.is in good-base-here)).accepts in base-of-here)) ((let terms-of-here : let read = c.read_terms-read.result in
-    let head = c.read_base-head.result in
-    read_terms (site_of head.base) c.args.bytes.now head.next
-    ≡ accepted (record { terms = read.terms; next = read.next }) = terms-good _ c.read_terms-read.ensures c.in_default-read_verdict.is in terms-of-here)) in
-    layers-good _ _ _ _ _ c.read_layers-numbers.ensures c.in_default-numbers_verdict.is (omega (arith, limits.1.s-most, limits.0.r-most)) in layers-of-here)) good.1
-          (c.figure_of.ensures ∙ rw c.rule_of-rule.ensures refl) c.if-t-figure_of.false ((let good-base-here : BaseGood PlacementKind c.args.bytes.now c.read_base-head.result = base-good PlacementKind _ c.read_base-head.ensures c.in_default.is in good-base-here)).array good.2; handed = handed-on _ _ refl
-          (λ fed. c.check_records-loaded.ensures.load_value c.in_default-rows_verdict.is fed limits.1.s-least); }
+    ≡ accepted (record { terms = read.terms; next = read.next }) = terms-good _ c.read_terms-read.ensures c.in_default-read_verdict.is in terms-of-here)) in record {
+      check_value = right-figure _ ((let base-of-here : let head = c.read_base-head.result in
+          read_base PlacementKind c.args.bytes.now
+          ≡ accepted (record { kind = head.kind; base = site_of head.base; next = head.next }) = ((let good-base-here : BaseGood PlacementKind c.args.bytes.now c.read_base-head.result = base-good PlacementKind _ c.read_base-head.ensures c.in_default.is in good-base-here)).accepts in base-of-here)) ((let terms-of-here : let read = c.read_terms-read.result in
+          let head = c.read_base-head.result in
+          read_terms (site_of head.base) c.args.bytes.now head.next
+          ≡ accepted (record { terms = read.terms; next = read.next }) = terms-good _ c.read_terms-read.ensures c.in_default-read_verdict.is in terms-of-here)) ((let layers-of-here : let read = c.read_terms-read.result in
+          LayersGood placement_layer_limits read.terms.s read.terms.b
+          c.args.bytes.now
+          read.next c.read_layers-numbers.result = let limits = order-limits _ ((let base-of-here : let head = c.read_base-head.result in
+          read_base PlacementKind c.args.bytes.now
+          ≡ accepted (record { kind = head.kind; base = site_of head.base; next = head.next }) = ((let good-base-here : BaseGood PlacementKind c.args.bytes.now c.read_base-head.result = base-good PlacementKind _ c.read_base-head.ensures c.in_default.is in good-base-here)).accepts in base-of-here)) ((let terms-of-here : let read = c.read_terms-read.result in
+          let head = c.read_base-head.result in
+          read_terms (site_of head.base) c.args.bytes.now head.next
+          ≡ accepted (record { terms = read.terms; next = read.next }) = terms-good _ c.read_terms-read.ensures c.in_default-read_verdict.is in terms-of-here)) in
+          layers-good _ _ _ _ _ c.read_layers-numbers.ensures c.in_default-numbers_verdict.is (omega (arith, limits.1.s-most, limits.0.r-most)) in layers-of-here)) good.1
+          (c.figure_of.ensures ∙ rw c.rule_of-rule.ensures refl) c.if-t-figure_of.false ((let good-base-here : BaseGood PlacementKind c.args.bytes.now c.read_base-head.result = base-good PlacementKind _ c.read_base-head.ensures c.in_default.is in good-base-here)).array good.2;
+      handed = handed-on _ _ refl
+          (λ fed. c.check_records-loaded.ensures.load_value c.in_default-rows_verdict.is fed limits.1.s-least);
+    }

@@ -15,8 +15,7 @@ loop-i-preserved c =
     let a = c.args in
     let l = c.loop-i in
     let t : Turn a.start a.board.now a.events.now =
-        record { i = l.i; p = l.progress; l = l.board; upto = l.invariant.0; standing = l.invariant.1; same = l.invariant.2 } in
-    (
+    record { i = l.i; p = l.progress; l = l.board; upto = l.invariant.0; standing = l.invariant.1; same = l.invariant.2 } in (
       omega arith,
       c.step-next.ensures.standing,
       same_next a.start a.board.now a.events.now t c.loop-i-test.true c.event_at-event.result c.event_at-event.ensures _ _ c.step-next.ensures,
@@ -27,5 +26,5 @@ returns c =
     let a = c.args in
     let l = c.loop-i in
     let t : Turn a.start a.board.now a.events.now =
-        record { i = l.i; p = l.progress; l = l.board; upto = l.invariant.0; standing = l.invariant.1; same = l.invariant.2 } in
+    record { i = l.i; p = l.progress; l = l.board; upto = l.invariant.0; standing = l.invariant.1; same = l.invariant.2 } in
     turn_end a.start a.board.now a.events.now t c.loop-i-test.false

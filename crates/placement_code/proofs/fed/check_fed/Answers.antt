@@ -17,14 +17,20 @@ count_rows-rows-requires c =
     (omega (arith, p.few, p.r-most), p.rows-most)
 
 pub overflow_mul-end : goal.overflow_mul-end
-overflow_mul-end c = omega (arith, (let fits-here : (c.count_rows-rows.result * c.args.base.r ≤ 20480) × (c.args.at ≤ 1092) = let p = c.requires.rows in
-    let few = p.rows-most in
-    (rows-small (omega arith) p.r-most, p.start-most) in fits-here))
+overflow_mul-end c = omega (
+  arith,
+  (let fits-here : (c.count_rows-rows.result * c.args.base.r ≤ 20480) × (c.args.at ≤ 1092) = let p = c.requires.rows in
+      let few = p.rows-most in
+      (rows-small (omega arith) p.r-most, p.start-most) in fits-here),
+)
 
 pub overflow_add-end : goal.overflow_add-end
-overflow_add-end c = omega (arith, (let fits-here : (c.count_rows-rows.result * c.args.base.r ≤ 20480) × (c.args.at ≤ 1092) = let p = c.requires.rows in
-    let few = p.rows-most in
-    (rows-small (omega arith) p.r-most, p.start-most) in fits-here))
+overflow_add-end c = omega (
+  arith,
+  (let fits-here : (c.count_rows-rows.result * c.args.base.r ≤ 20480) × (c.args.at ≤ 1092) = let p = c.requires.rows in
+      let few = p.rows-most in
+      (rows-small (omega arith) p.r-most, p.start-most) in fits-here),
+)
 
 pub returns-then-bytes-end : goal.returns-then-bytes-end
 returns-then-bytes-end c =

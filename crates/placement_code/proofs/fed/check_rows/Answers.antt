@@ -16,8 +16,12 @@ count_rows-rows-requires c =
 
 pub check_ascending-order-requires : goal.check_ascending-order-requires
 unfolding rows_at
-check_ascending-order-requires c =  record { r_in_bounds = (let fits-here : c.args.at + c.count_rows-rows.result * c.args.base.r ≤ length c.args.bytes.now = let bytes = ap (λ rows. rows * c.args.base.r) c.count_rows-rows.ensures in
-    omega (arith, c.requires.inside) in fits-here); start_le_rows = search rules; all = tt; }
+check_ascending-order-requires c = record {
+  r_in_bounds = (let fits-here : c.args.at + c.count_rows-rows.result * c.args.base.r ≤ length c.args.bytes.now = let bytes = ap (λ rows. rows * c.args.base.r) c.count_rows-rows.ensures in
+      omega (arith, c.requires.inside) in fits-here);
+  start_le_rows = search rules;
+  all = tt;
+}
 
 pub returns-in-Refused : goal.returns-in-Refused
 returns-in-Refused c =
@@ -25,8 +29,11 @@ returns-in-Refused c =
 
 pub check_service-service-requires : goal.check_service-service-requires
 check_service-service-requires c =
-     record { r_in_bounds = (let fits-here : c.args.at + c.count_rows-rows.result * c.args.base.r ≤ length c.args.bytes.now = let bytes = ap (λ rows. rows * c.args.base.r) c.count_rows-rows.ensures in
-    omega (arith, c.requires.inside) in fits-here); dark_fits = c.requires.dark; }
+    record {
+      r_in_bounds = (let fits-here : c.args.at + c.count_rows-rows.result * c.args.base.r ≤ length c.args.bytes.now = let bytes = ap (λ rows. rows * c.args.base.r) c.count_rows-rows.ensures in
+          omega (arith, c.requires.inside) in fits-here);
+      dark_fits = c.requires.dark;
+    }
 
 pub returns-in-Refused-service : goal.returns-in-Refused-service
 returns-in-Refused-service c =

@@ -11,4 +11,4 @@ returns-in-Accepted c =
 pub returns-in-Refused : goal.returns-in-Refused
 returns-in-Refused c =
     made_told (read_pack c.args.pack.now) c.check_pack-check.ensures (length c.args.pack.now) c.args.lines.now c.args.first c.args.r
-    c.in-Refused.is c.number-number.ensures c.place.ensures c.line_at_lem.ensures
+    c.in-Refused.is c.number-number.ensures c.place.ensures c.line_at-place.ensures
