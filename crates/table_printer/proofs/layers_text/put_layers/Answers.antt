@@ -1,5 +1,4 @@
 use native.Mathlib.Omega.{arith}
-use Prim.Native.Nat.{◌-◌}
 use mathlib.Core.Path.{◌≡◌}
 use lib.ListN.{length}
 use Rattle.table_printer.proofs.Turns.{layers-none, layers-all, layer-inside, layer-from, layer-blocks, mu-room, blocks-room, layers-next}
@@ -25,7 +24,7 @@ slice_bounds-put_rows-count c =
 
 pub put_rows-place-requires : goal.put_rows-place-requires
 put_rows-place-requires c =
-    let five : length c.args.heads ≡ 5 = omega (arith, c.well_formed) in  record { r_in_bounds = layer-blocks c.args.heads c.args.rows.now c.args.r c.args.out.now c.args.at five c.requires.r_bound c.loop-x.invariant c.loop-x-test.true; r_bound = c.requires.r_bound; rows_in_bounds = blocks-room c.args.heads c.args.rows.now c.args.r c.args.out.now c.args.at five c.requires.r_bound c.loop-x.invariant c.loop-x-test.true c.requires.rows_in_bounds c.put_line-next.ensures; }
+    let five : length c.args.heads ≡ 5 = omega (arith, c.well_formed) in record { r_in_bounds = layer-blocks c.args.heads c.args.rows.now c.args.r c.args.out.now c.args.at five c.requires.r_bound c.loop-x.invariant c.loop-x-test.true; r_bound = c.requires.r_bound; rows_in_bounds = blocks-room c.args.heads c.args.rows.now c.args.r c.args.out.now c.args.at five c.requires.r_bound c.loop-x.invariant c.loop-x-test.true c.requires.rows_in_bounds c.put_line-next.ensures }
 
 pub overflow_mul-from : goal.overflow_mul-from
 overflow_mul-from c =

@@ -8,11 +8,11 @@ put_line-first-requires c = omega (arith, c.requires.table_most_in_bounds)
 
 pub put_out-second-requires : goal.put_out-second-requires
 put_out-second-requires c =
-     record { count_bound = c.requires.pack_held.dark-few; at_in_bounds = out-room c.args.head c.args.heads c.args.dark c.args.rows.now c.args.out.now c.requires.pack_held c.requires.table_most_in_bounds c.put_line-first.ensures c.out-1.given; }
+    record { count_bound = c.requires.pack_held.dark-few; at_in_bounds = out-room c.args.head c.args.heads c.args.dark c.args.rows.now c.args.out.now c.requires.pack_held c.requires.table_most_in_bounds c.put_line-first.ensures c.out-1.given }
 
 pub put_layers-requires : goal.put_layers-requires
 put_layers-requires c =
-     record { r_bound = c.requires.pack_held.r-most; r_in_bounds = c.requires.pack_held.rows-there; rows_in_bounds = layers-room c.args.head c.args.heads c.args.dark c.args.rows.now c.args.out.now c.requires.pack_held c.requires.table_most_in_bounds c.put_line-first.ensures c.out-1.given c.put_out-second.ensures c.out-2-1.given; }
+    record { r_bound = c.requires.pack_held.r-most; r_in_bounds = c.requires.pack_held.rows-there; rows_in_bounds = layers-room c.args.head c.args.heads c.args.dark c.args.rows.now c.args.out.now c.requires.pack_held c.requires.table_most_in_bounds c.put_line-first.ensures c.out-1.given c.put_out-second.ensures c.out-2-1.given }
 
 pub returns : goal.returns
 returns c =

@@ -16,7 +16,7 @@ slice_bounds-put_table-start c =
 
 pub put_table-requires : goal.put_table-requires
 put_table-requires c =
-     record { pack_held = pack-held c.args.input.now c.check_pack-check.ensures c.in-Accepted.is; table_most_in_bounds = c.requires; }
+    record { pack_held = pack-held c.args.input.now c.check_pack-check.ensures c.in-Accepted.is; table_most_in_bounds = c.requires }
 
 pub returns-in-Refused : goal.returns-in-Refused
 returns-in-Refused c =
