@@ -28,7 +28,7 @@ slice_bounds-add_line-end c =
 
 pub add_line-added-requires : goal.add_line-added-requires
 add_line-added-requires c =
-     record { kept = c.loop-at.invariant.3.kept; room = c.loop-at.invariant.3.room; }
+    record { kept = c.loop-at.invariant.3.kept; room = c.loop-at.invariant.3.room }
 
 pub shape_of-numbers-in_default : goal.shape_of-numbers-in_default
 shape_of-numbers-in_default c =
@@ -55,14 +55,13 @@ loop-at-smaller c =
     omega (arith, end-within c.loop-at.invariant.3 c.loop-at-test.true c.first_of.ensures refl)
 
 pub loop-at-preserved : goal.loop-at-preserved
-loop-at-preserved c =
-    (
-      c.numbers-1.given ∙ c.loop-at.invariant.0,
-      c.rows-1.given ∙ c.loop-at.invariant.1,
-      c.lines-1.given ∙ c.loop-at.invariant.2,
-      turn-next c.loop-at.invariant.3 c.loop-at-test.true c.first_of.ensures refl _ _ _ _ c.add_line-added.ensures c.in-To.is
-          (room-same c.loop-at.invariant.3.room c.numbers-1.given c.rows-1.given c.lines-1.given),
-    )
+loop-at-preserved c = (
+  c.numbers-1.given ∙ c.loop-at.invariant.0,
+  c.rows-1.given ∙ c.loop-at.invariant.1,
+  c.lines-1.given ∙ c.loop-at.invariant.2,
+  turn-next c.loop-at.invariant.3 c.loop-at-test.true c.first_of.ensures refl _ _ _ _ c.add_line-added.ensures c.in-To.is
+      (room-same c.loop-at.invariant.3.room c.numbers-1.given c.rows-1.given c.lines-1.given),
+)
 
 pub shape_of-numbers-then-r-eq0 : goal.shape_of-numbers-then-r-eq0
 shape_of-numbers-then-r-eq0 c =
