@@ -8,19 +8,18 @@ ghost use Rattle.split.specs.Splits.{counts_split};
 ghost use Rattle.commit.specs.Asking.{named_offer, ask_layers, ask as ask_of, ask_answer, AskDone};
 ghost use Rattle.commit.specs.Asked.{LayersHeld, Askable, CopiesFit};
 
-use commit::{AskAnswer, AskResult};
+use commit::AskResult;
 use layers::{Base, LayerHead};
-use pack::PackAnswer;
 use placement::{Order, Rule};
 use planner_writer::copies_for;
-use refusal::{Refusal, Verdict};
+use refusal::Refusal;
 
 // The answer that refuses.
 fn refuse(e: Refusal) -> AskResult
     ensures { result ≡ ask_answer (refused e) }
 {
     AskResult {
-        answer: AskAnswer::Refused(e),
+        answer: Err(e),
         counts: [0; 5],
         copies: [0; 5],
     }
@@ -56,7 +55,7 @@ fn offer(layers: [LayerHead; 5], order: Order, work: &mut [u16]) -> AskResult
     let figure = placement_figure::figure_of(Rule::NestedFloors, order, heads);
     let copies = copies_of(layers, counts);
     AskResult {
-        answer: AskAnswer::Offered(figure),
+        answer: Ok(figure),
         counts,
         copies,
     }
@@ -70,15 +69,15 @@ fn ask_layers(base: Base, layers: [LayerHead; 5], order: Order, work: &mut [u16]
 {
     let s = order.s;
     let limits = planner_order::check_order(base, order);
-    if let Verdict::Refused(e) = limits {
+    if let Err(e) = limits {
         return refuse(e);
     }
     let some = planner_order::check_blocks(layers, s);
-    if let Verdict::Refused(e) = some {
+    if let Err(e) = some {
         return refuse(e);
     }
     let entries = planner_order::check_work(order, work.len());
-    if let Verdict::Refused(e) = entries {
+    if let Err(e) = entries {
         return refuse(e);
     }
     offer(layers, order, work)
@@ -96,8 +95,8 @@ pub fn ask(pack: &[u8], s: usize, k: usize, b: usize, work: &mut [u16]) -> AskRe
     let dark = checked.dark;
     let answer = checked.answer;
     match answer {
-        PackAnswer::Refused(e) => refuse(e),
-        PackAnswer::Accepted(head) => {
+        Err(e) => refuse(e),
+        Ok(head) => {
             let base = Base {
                 n: head.n,
                 r: head.r,

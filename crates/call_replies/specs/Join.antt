@@ -1,14 +1,13 @@
 -- What `join` prints. Assumes nothing.
-use Rattle.std.specs.Prelude.{ℕ, cond, ◌≡◌, List, [], ◌∷◌, ltb, eqb}
+use Rattle.std.specs.Prelude.{ℕ, cond, ◌≡◌, List, [], ◌∷◌, ltb, eqb, Result, Ok, Err}
 use Rattle.refusal.specs.Checked.{Checked, map_accepted}
 use Rattle.pack.specs.Pack.{Pack, bytes_of_pack}
 use Rattle.join.specs.Join.{join}
-use Rattle.join.specs.declared.Joined.{Joined}
-use Rattle.join.specs.declared.Joined.TheVariants.{Written, Refused}
 use Rattle.report.specs.Programs.{refused_line, or_refused_line}
 use Rattle.report.specs.Replies.{Replied}
 use Rattle.text.specs.declared.TextRefusal.TheVariants.{Arguments}
 use Rattle.replies.specs.Lines.{text_line}
+use Rattle.refusal.specs.declared.Refusal.{Refusal}
 
 -- the joined pack, or the line of the refusal
 unfoldable pub joined_text : Checked Pack → List ℕ
@@ -27,6 +26,6 @@ join_reply named first second third output =
     (joined_text (join (first ∷ second ∷ third ∷ []) output))))
 
 -- what is said after a call of joining: nothing more where it has written, else the line of the refusal
-abbrev pub Told : Joined → (answer : ℕ) (before after : List ℕ) → Type 0
-Told (Written n) answer before after = (answer ≡ n) × (after ≡ before)
-Told (Refused e) answer before after = Replied (refused_line e) answer before after
+abbrev pub Told : Result ℕ Refusal → (answer : ℕ) (before after : List ℕ) → Type 0
+Told (Ok n) answer before after = (answer ≡ n) × (after ≡ before)
+Told (Err e) answer before after = Replied (refused_line e) answer before after

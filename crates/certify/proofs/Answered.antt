@@ -1,5 +1,6 @@
 -- What the code's answers say of reading bare rows. Assumes nothing.
 use Prim.Native.Nat.{ℕ, ◌+◌, ◌*◌, ◌≤◌, ◌<◌}
+use Rattle.std.specs.Prelude.{⊤, Result, Ok, Err}
 use native.Mathlib.Omega.{arith}
 use native.Mathlib.Nat.{le_of_lt}
 use mathlib.Core.Path.{◌≡◌, refl, sym, ◌∙◌, ap}
@@ -9,9 +10,8 @@ use borrow.Author.Tests.{le-leb, lt-leb}
 use Rattle.lists.proofs.Alls.{all-imp}
 use Rattle.refusal.specs.declared.Refusal.{Refusal}
 use Rattle.refusal.specs.declared.Refusal.TheVariants.{Ended, Trailing}
-use Rattle.refusal.specs.declared.Verdict.{Verdict}
-use Rattle.refusal.specs.declared.Verdict.TheVariants.{Good, Refused}
 use Rattle.refusal.specs.Checked.{Checked, accepted, refused, ◌>>=◌, verdict}
+use Rattle.refusal.proofs.Answered.{answered-err, answered-ok}
 use Rattle.packing.specs.Rows.{rows_at}
 use Rattle.layers.specs.Layers.{Site, BaseReading, Located, check_length, check_end, check_ascending, check_service}
 use Rattle.layers.specs.Answers.{dark_of, dark_list, site_of, base_of, DarkFits, base_read}
@@ -33,11 +33,13 @@ pub record StartGood (bytes : List ℕ) (read : BaseRead) : Type 0 where
   pub held : StartHeld bytes (record { kind = 7; base = site_of read.base; next = read.next })
   pub inside : read.next ≤ length bytes
 
-pub start-good : (bytes : List ℕ) {read : BaseRead} → read ≡ base_read (read_start bytes) → read.verdict ≡ Good → StartGood bytes read
-start-good bytes {read} is good = go (read_start bytes) refl is
+pub start-good : (bytes : List ℕ) {given : Result BaseRead Refusal} {read : BaseRead} → given ≡ base_read (read_start bytes)
+    → given ≡ Ok read → StartGood bytes read
+start-good bytes {read = read} is good = let (b, r, a) = answered-ok _ (read_start bytes) is good in go b r a
   where
-    go : (m : Checked BaseReading) → read_start bytes ≡ m → read ≡ base_read m → StartGood bytes read
-    go (accepted b) r a =
+    go : (b : BaseReading) → read_start bytes ≡ accepted b → read ≡ record { kind = b.kind; base = base_of b.base; next = b.next }
+        → StartGood bytes read
+    go b r a =
         let held = held-of-read_start bytes r in
         let n-most = held.limits.n-most in
         let count = dark-count b.base.n b.base.dark held.dark.ordered in
@@ -58,26 +60,18 @@ start-good bytes {read} is good = go (read_start bytes) refl is
           held = rw (← same) held;
           inside = rw a (reads-le-length (start_numbers b.base) bytes 0 b.next (omega arith) held.reads);
         }
-    go (refused e) r a =
-        absurd (let v = ap (λ (r : BaseRead). r.verdict) a in let z : ◌≡◌ {A = ℕ} 0 1 = cc in omega arith)
 
-pub order-refused : (m : Checked OrderReading) {read : OrderRead} {e : Refusal} → read ≡ order_read m → read.verdict ≡ Refused e
-    → m ≡ refused e
-order-refused (accepted o) is why = let v = ap (λ r. r.verdict) is in cc
-order-refused (refused e) is why = let v = ap (λ r. r.verdict) is in cc
-
-pub order-good : (m : Checked OrderReading) {read : OrderRead} → read ≡ order_read m → read.verdict ≡ Good
-    → m ≡ accepted (record { order = read.order; next = read.next })
-order-good (accepted o) is good = rw is refl
-order-good (refused e) is good = absurd (let v = ap (λ r. r.verdict) is in let z : ◌≡◌ {A = ℕ} 0 1 = cc in omega arith)
+pub order-good : (m : Checked OrderReading) {given : Result OrderRead Refusal} {read : OrderRead} → given ≡ order_read m
+    → given ≡ Ok read → m ≡ accepted (record { order = read.order; next = read.next })
+order-good m is good = let (o, r, a) = answered-ok _ m is good in rw a r
 
 -- The answers of checking the rows: 1 or 5 for their length, then 6 over all rows, then 15.
 module _ (base : Site) (b : ℕ) (s : List ℕ) (at : ℕ) where
-  pub rows_short : length s < at + b * base.r → Refused (Ended (length s)) ≡ verdict (check_bare_rows base b s at)
+  pub rows_short : length s < at + b * base.r → Err (Ended (length s)) ≡ verdict (check_bare_rows base b s at)
   unfolding check_length check_bare_rows
   rows_short h = rw (lt-leb (at + b * base.r) (length s) h)
 
-  pub rows_long : at + b * base.r < length s → Refused (Trailing (at + b * base.r)) ≡ verdict (check_bare_rows base b s at)
+  pub rows_long : at + b * base.r < length s → Err (Trailing (at + b * base.r)) ≡ verdict (check_bare_rows base b s at)
   unfolding check_length check_end check_bare_rows
   rows_long h = rw (le-leb (at + b * base.r) (length s) (le_of_lt h), lt-leb (length s) (at + b * base.r) h)
 
@@ -88,12 +82,12 @@ module _ (base : Site) (b : ℕ) (s : List ℕ) (at : ℕ) where
     last (refused e) a = refl
 
     pub rows-unordered : {e : Refusal} → check_ascending base at (rows_at base.r b (drop at s)) ≡ refused e
-        → Refused e ≡ verdict (check_bare_rows base b s at)
+        → Err e ≡ verdict (check_bare_rows base b s at)
     unfolding check_length check_end check_bare_rows
     rows-unordered why =
         rw (le-leb (at + b * base.r) (length s) (omega arith), le-leb (length s) (at + b * base.r) (omega arith), why)
 
-    pub rows_last : {u : Unit} {answer : Verdict} → check_ascending base at (rows_at base.r b (drop at s)) ≡ accepted u
+    pub rows_last : {u : Unit} {answer : Result ⊤ Refusal} → check_ascending base at (rows_at base.r b (drop at s)) ≡ accepted u
         → answer ≡ verdict (check_service base at (rows_at base.r b (drop at s)))
         → answer ≡ verdict (check_bare_rows base b s at)
     unfolding check_length check_end check_bare_rows
@@ -136,51 +130,47 @@ module _ (bytes : List ℕ) where
 pub all-answered : (bytes : List ℕ) (start : BaseRead) (numbers : OrderRead) {rows : List (List ℕ)} → StartGood bytes start
     → read_order (site_of start.base) bytes start.next ≡ accepted (record { order = numbers.order; next = numbers.next })
     → check_bare_rows (site_of start.base) numbers.order.b bytes numbers.next ≡ accepted rows
-    → ◌≡◌ {A = BareRead} (record { verdict = Good; base = start.base; order = numbers.order; first = numbers.next }) (bare_read (read_bare bytes))
+    → Ok (record { base = start.base; order = numbers.order; first = numbers.next }) ≡ bare_read (read_bare bytes)
 all-answered bytes start numbers g o taken =
-    (λ i. record {
-      verdict = Good;
+    (λ i. Ok
+    (record {
       base = record { n = start.base.n; r = start.base.r; dark = g.array i };
       order = numbers.order;
       first = numbers.next;
-    })
+    }))
     ∙ sym (ap bare_read (all_read bytes g.accepts o taken))
 
--- What the answer of reading bare rows says.
-module _ (bytes : List ℕ) {read : BareRead} (is : read ≡ bare_read (read_bare bytes)) where
-  pub bare-refused : {e : Refusal} → read.verdict ≡ Refused e → check_bare bytes ≡ refused e
-  unfolding check_bare
-  bare-refused {e} why = go (read_bare bytes) refl is
-    where
-      go : (m : Checked (Located Bare)) → read_bare bytes ≡ m → read ≡ bare_read m → check_bare bytes ≡ refused e
-      go (accepted file) r a = let v = ap (λ (r : BareRead). r.verdict) a in absurd (let z : ◌≡◌ {A = ℕ} 0 1 = cc in omega arith)
-      go (refused other) r a = let v = ap (λ (r : BareRead). r.verdict) a in rw r cc
+-- What the answer of reading bare rows says: a refusal,
+pub bare-refused : (bytes : List ℕ) {given : Result BareRead Refusal} {e : Refusal} → given ≡ bare_read (read_bare bytes) → given ≡ Err e
+    → check_bare bytes ≡ refused e
+unfolding check_bare
+bare-refused bytes is why = rw (answered-err _ (read_bare bytes) is why)
 
-  -- the bare rows that were read: the code's numbers, good, in the bytes from `first` to the end
-  pub record BareFound : Type 0 where
-    pub bare : Bare
-    pub found : check_bare bytes ≡ accepted bare
-    pub good : GoodBare bare
-    pub base-is : read.base ≡ base_of bare.base
-    pub order_is : read.order ≡ bare.order
-    pub inside : read.first ≤ length bytes
-    pub rest : drop read.first bytes ≡ flatten bare.rows
+-- or the bare rows that were read: the code's numbers, good, in the bytes from `first` to the end
+pub record BareFound (bytes : List ℕ) (read : BareRead) : Type 0 where
+  pub bare : Bare
+  pub found : check_bare bytes ≡ accepted bare
+  pub good : GoodBare bare
+  pub base-is : read.base ≡ base_of bare.base
+  pub order_is : read.order ≡ bare.order
+  pub inside : read.first ≤ length bytes
+  pub rest : drop read.first bytes ≡ flatten bare.rows
 
-  pub bare-found : read.verdict ≡ Good → BareFound
-  unfolding check_bare
-  bare-found good = go (read_bare bytes) refl is
-    where
-      go : (m : Checked (Located Bare)) → read_bare bytes ≡ m → read ≡ bare_read m → BareFound
-      go (accepted file) r a =
-          let (f, g) = read-of-bare bytes file.content file.first r in
-          record {
-            bare = file.content;
-            found = rw r refl;
-            good = g;
-            base-is = ap (λ (r : BareRead). r.base) a;
-            order_is = ap (λ (r : BareRead). r.order) a;
-            inside = rw a f.inside;
-            rest = rw a f.rest;
-          }
-      go (refused e) r a =
-          absurd (let v = ap (λ (r : BareRead). r.verdict) a in let z : ◌≡◌ {A = ℕ} 0 1 = cc in omega arith)
+pub bare-found : (bytes : List ℕ) {given : Result BareRead Refusal} {read : BareRead} → given ≡ bare_read (read_bare bytes)
+    → given ≡ Ok read → BareFound bytes read
+unfolding check_bare
+bare-found bytes {read = read} is good = let (file, r, a) = answered-ok _ (read_bare bytes) is good in go file r a
+  where
+    go : (file : Located Bare) → read_bare bytes ≡ accepted file
+        → read ≡ record { base = base_of file.content.base; order = file.content.order; first = file.first } → BareFound bytes read
+    go file r a =
+        let (f, g) = read-of-bare bytes file.content file.first r in
+        record {
+          bare = file.content;
+          found = rw r refl;
+          good = g;
+          base-is = ap (λ (r : BareRead). r.base) a;
+          order_is = ap (λ (r : BareRead). r.order) a;
+          inside = rw a f.inside;
+          rest = rw a f.rest;
+        }

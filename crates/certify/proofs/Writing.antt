@@ -1,5 +1,6 @@
 -- Certifying as the code does it: what the choice of a layer and the planner's writer ask, and what is answered. Assumes nothing.
 use Prim.Native.Nat.{ℕ, ◌-◌, ◌*◌, ◌<◌}
+use Rattle.std.specs.Prelude.{Result}
 use native.Mathlib.Omega.{arith}
 use mathlib.Core.Path.{◌≡◌, refl, sym, ◌∙◌, ap, subst}
 use mathlib.Core.List.{List, [], ◌++◌, flatten, append-nil}
@@ -21,11 +22,11 @@ use Rattle.placement.specs.declared.Order.{Order}
 use Rattle.planner.specs.Planning.{check_output, output_after}
 use Rattle.planner.specs.Answers.{plan_answer}
 use Rattle.planner.specs.Writing.{held_pack, counts_placement, Writable}
-use Rattle.planner.specs.declared.PlanAnswer.{PlanAnswer}
 use Rattle.planner.specs.declared.PlanResult.{PlanResult}
-use Rattle.certify.specs.Answers.{choice_below, bare_read}
+use Rattle.planner.specs.declared.PlannedFile.{PlannedFile}
+use Rattle.certify.specs.Answers.{choice_below}
 use Rattle.certify.specs.Asked.{RowsAsked, OrderAsked, BareHeld, held_bare}
-use Rattle.certify.specs.Bare.{Bare, GoodBare, read_bare, check_bare}
+use Rattle.certify.specs.Bare.{Bare, GoodBare, check_bare}
 use Rattle.certify.specs.Certify.{most_together, figure_in, layer_taken, placed_in, certified, certify_bare, CertifyDone}
 use Rattle.certify.specs.declared.BareRead.{BareRead}
 use Rattle.certify.specs.declared.Choice.{Choice}
@@ -91,7 +92,7 @@ module _ {base : Base} {order : Order} {bytes : List ℕ} (held : BareHeld base 
         ∙ counts_placement-is q held.good x below
 
     -- and what is answered
-    pub writes-done : {out out-left : List ℕ} {answer : PlanAnswer}
+    pub writes-done : {out out-left : List ℕ} {answer : Result PlannedFile Refusal}
         → (answer ≡ (plan_answer (accepted (counts_placement (held_pack base heads bytes) order counts))).answer)
         × (out-left ≡ output_after (accepted (counts_placement (held_pack base heads bytes) order counts)) out)
         → CertifyDone (accepted (placed_in q x)) out out-left (record { answer = answer; counts = counts })
@@ -134,7 +135,7 @@ choice-layer q is =
     (layer, ap (λ (c : Choice). c.lambda) is ∙ ap (λ x. most_together x q.rows) (sym layer))
 
 -- the rows that were read stand in the part that is lent
-module _ (bytes : List ℕ) {read : BareRead} {is : read ≡ bare_read (read_bare bytes)} (found : BareFound bytes is) where
+module _ (bytes : List ℕ) {read : BareRead} (found : BareFound bytes read) where
   abbrev bare : Bare
   bare = found.bare
 

@@ -3,21 +3,17 @@
 
 use layers::Base;
 use placement::Order;
-use refusal::Verdict;
 
-// What reading s, k and b gives, with the next place; all numbers are 0 beside a refusal.
+// What reading s, k and b gives, with the next place.
 #[derive(Clone, Copy)]
 pub struct OrderRead {
-    pub verdict: Verdict,
     pub order: Order,
     pub next: usize,
 }
 
-// What checking a file of bare rows gives: n, r and the nodes out of service, s, k and b, and the place of the first row; all
-// numbers are 0 beside a refusal.
+// What checking a file of bare rows gives: n, r and the nodes out of service, s, k and b, and the place of the first row.
 #[derive(Clone, Copy)]
 pub struct BareRead {
-    pub verdict: Verdict,
     pub base: Base,
     pub order: Order,
     pub first: usize,

@@ -12,15 +12,15 @@ ghost use Rattle.certify.specs.Certify.{most_together, placed_in, certify_bare, 
 use certify::Choice;
 use layers::{Base, LayerHead};
 use placement::Order;
-use planner::{PlanAnswer, PlanResult};
-use refusal::{Refusal, Verdict};
+use planner::PlanResult;
+use refusal::Refusal;
 
 // The answer that refuses.
 fn refuse(e: Refusal) -> PlanResult
     ensures { result ≡ plan_answer (refused e) }
 {
     PlanResult {
-        answer: PlanAnswer::Refused(e),
+        answer: Err(e),
         counts: [0; 5],
     }
 }
@@ -57,7 +57,7 @@ fn certify_bare(rows: &[u8], base: Base, order: Order, out: &mut [u8]) -> PlanRe
     let r = base.r;
     let b = order.b;
     let bytes = planner_order::check_output(b, r, out.len());
-    if let Verdict::Refused(e) = bytes {
+    if let Err(e) = bytes {
         return refuse(e);
     }
     let choice = certify_most::choose_layer(rows, r, order);
@@ -73,13 +73,8 @@ pub fn certify(bytes: &[u8], out: &mut [u8]) -> PlanResult
     ensures { CertifyDone (certify_of bytes.now (length out.old))
         out.old out.new result }
 {
-    let read = certify_reader::read_bare(bytes);
-    let verdict = read.verdict;
-    if let Verdict::Refused(e) = verdict {
-        return refuse(e);
+    match certify_reader::read_bare(bytes) {
+        Err(e) => refuse(e),
+        Ok(read) => certify_bare(&bytes[read.first..], read.base, read.order, out),
     }
-    let base = read.base;
-    let order = read.order;
-    let first = read.first;
-    certify_bare(&bytes[first..], base, order, out)
 }

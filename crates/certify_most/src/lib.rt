@@ -22,7 +22,7 @@ fn choice_in(rows: &[u8], r: usize, order: Order, x: usize) -> Choice
     let k = order.k;
     let b = order.b;
     let lambda = most_together(rows, b, r, x);
-    let lost = minmax::smaller(b, placement_figure::floors_down(k, s, x, lambda));
+    let lost = b.min(placement_figure::floors_down(k, s, x, lambda));
     Choice {
         layer: x,
         lambda,
@@ -35,9 +35,10 @@ fn better(first: Choice, second: Choice) -> Choice
     ensures { result ≡ cond (leb first.figure second.figure) second first }
 {
     if first.figure <= second.figure {
-        return second;
+        second
+    } else {
+        first
     }
-    first
 }
 
 // The layer below s with the highest figure for the b rows of r bytes, of equal ones the highest, with its least lambda.
@@ -46,13 +47,10 @@ pub fn choose_layer(rows: &[u8], r: usize, order: Order) -> Choice
     requires order_asked { OrderAsked r order }
     ensures { result ≡ choice_below order (rows_at r order.b rows.now) order.s }
 {
-    let s = order.s;
     let mut best = choice_in(rows, r, order, 0);
-    let mut x: usize = 1;
-    while x < s {
+    for x in 1..order.s {
         let next = choice_in(rows, r, order, x);
         best = better(best, next);
-        x += 1;
     }
     best
 }

@@ -6,14 +6,14 @@ ghost use Rattle.std.specs.Prelude.{◌≤◌, length};
 ghost use Rattle.report.specs.Programs.{check_line};
 ghost use Rattle.report.specs.Replies.{line_needed, Replied};
 
-use report::{LINE_NEEDED, Reply};
+use report::LINE_NEEDED;
 
 // Puts what is printed for the input at the start of `out`, and answers its length: such a slice is never refused.
 fn reply(input: &[u8], out: &mut [u8]) -> usize
     requires { line_needed ≤ length out.old }
     ensures { Replied (check_line input.now) result out.old out.new }
 {
-    let Reply::Written(length) = report_check::check_reply(input, out) else {
+    let Ok(length) = report_check::check_reply(input, out) else {
         return 0;
     };
     length
@@ -28,10 +28,5 @@ fn answer(rt: &(impl Print + Eprint), input: &[u8]) {
 
 fn main(rt: HostRuntime) {
     let mut buffer = [0u8; 32768];
-    let taken = console::read_input(&rt, &mut rt.stdin(), &mut buffer);
-    if taken.failure.is_some() {
-        return;
-    }
-    let count = taken.count;
-    answer(&rt, &buffer[0..count]);
+    console::run(&rt, &mut buffer, |input| answer(&rt, input));
 }

@@ -62,24 +62,32 @@ pub fn arguments(rt: &HostRuntime, text: &mut [u8]) -> usize
 {
     let count = arg_count(rt);
     let mut at: usize = 0;
-    let mut i: usize = 1;
-    while i < count {
+    for i in 1..count {
         if text.len() - at < 17 {
             return at;
         }
         at = put_argument(rt, i, text, at);
-        i += 1;
     }
     at
 }
 
+// Runs a program that takes numbers and then a file: `answer` is given the arguments, as `arguments` puts them, and the first 32,768 bytes
+// of standard input. Where that can't be read, it is said, and nothing is answered.
+pub fn run<F: FnOnce(&[u8], &[u8])>(rt: &HostRuntime, answer: F)
+    requires { F.IsAlwaysCallable answer }
+{
+    let mut words = [0u8; 272];
+    let size = arguments(rt, &mut words);
+    let mut buffer = [0u8; 32768];
+    let taken = console::read_input(rt, &mut rt.stdin(), &mut buffer);
+    if taken.failure.is_none() {
+        answer(&words[0..size], &buffer[0..taken.count]);
+    }
+}
+
 // How many arguments there are, the program's own name not counted.
 pub fn named(rt: &HostRuntime) -> usize {
-    let count = arg_count(rt);
-    if count == 0 {
-        return 0;
-    }
-    count - 1
+    arg_count(rt).saturating_sub(1)
 }
 
 // An error's text without the system's number of it, which ends it.

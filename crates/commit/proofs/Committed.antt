@@ -1,5 +1,6 @@
 -- Committing counts that are taken: what writing asks, and the answer. Assumes nothing.
 use Prim.Native.Nat.{ℕ, suc, ◌*◌, ◌≤◌, ◌<◌}
+use Rattle.std.specs.Prelude.{Result}
 use native.Mathlib.Omega.{arith}
 use native.Mathlib.Nat.{le_trans, not-suc-le-zero, eq-zero-or-pos}
 use mathlib.Core.Path.{◌≡◌, refl, sym, ◌∙◌, ap}
@@ -29,8 +30,8 @@ use Rattle.split.proofs.Heads.{split-count-le}
 use Rattle.planner.specs.Planning.{placed, split_placement, output_needed, output_after}
 use Rattle.planner.specs.Answers.{plan_answer, counts_of}
 use Rattle.planner.specs.Writing.{counts_placement, PackHeld, Writable}
-use Rattle.planner.specs.declared.PlanAnswer.{PlanAnswer}
 use Rattle.planner.specs.declared.PlanResult.{PlanResult}
+use Rattle.planner.specs.declared.PlannedFile.{PlannedFile}
 use Rattle.planner.proofs.Blocks.{block-found}
 use Rattle.planner.proofs.Placed.{placed-good}
 use Rattle.commit.specs.Committing.{Taken, CommitDone}
@@ -64,7 +65,7 @@ pub refused-done : {committed : Checked Placement} {e : Refusal} (out : List ℕ
 refused-done out is e = rw is (record { answer = e; output-after = refl })
 
 -- the answer and the output afterwards
-pub committed-done : {p : Placement} {out out-left counts : List ℕ} {answer : PlanAnswer} → counts ≡ counts_of p
+pub committed-done : {p : Placement} {out out-left counts : List ℕ} {answer : Result PlannedFile Refusal} → counts ≡ counts_of p
     → (answer ≡ (plan_answer (accepted p)).answer) × (out-left ≡ output_after (accepted p) out)
     → CommitDone (accepted p) out out-left (record { answer = answer; counts = counts })
 committed-done same (a, o) = record { answer = λ i. record { answer = a i; counts = same i }; output-after = o }

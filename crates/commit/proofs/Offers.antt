@@ -1,5 +1,6 @@
 -- What asking gives: the chosen counts are the named split's, and so are the figure and the copies. Assumes nothing.
 use Prim.Native.Nat.{ℕ, ◌*◌, ◌≤◌, ◌<◌, zero-le}
+use Rattle.std.specs.Prelude.{Ok}
 use native.Mathlib.Omega.{arith}
 use mathlib.Core.Path.{◌≡◌, refl, sym, ◌∙◌, ap, ap₂}
 use mathlib.Core.Logic.{◌⊎◌, inl, inr}
@@ -40,7 +41,6 @@ use Rattle.planner.proofs.Checks.{order-good, order-within, blocks-good, blocks-
 use Rattle.planner.proofs.Layering.{layer_at-held}
 use Rattle.commit.specs.Asking.{Offer, named_offer, ask_layers, ask, ask_answer, AskDone}
 use Rattle.commit.specs.Asked.{LayersHeld, Askable, CopiesFit}
-use Rattle.commit.specs.declared.AskAnswer.TheVariants.{Offered}
 use Rattle.commit.specs.declared.AskResult.{AskResult}
 use Rattle.commit.proofs.Fives.{get_d-five-past, five-up_to}
 
@@ -147,7 +147,7 @@ module _ {layers : List LayerHead} {order : Order} {before after counts : List �
         → figure ≡ figure_of NestedFloors order.s order.k order.b (take order.s heads)
         → copies ≡ map (λ x. (counts_split layers counts x).copies) (up_to 5)
         → AskDone order (accepted (named_offer layers order)) before after
-        (record { answer = Offered figure; counts = counts; copies = copies })
+        (record { answer = Ok figure; counts = counts; copies = copies })
     unfolding named_offer
     offered {figure} {copies} is made =
         let f : figure ≡ (named_offer layers order).figure =
@@ -155,7 +155,7 @@ module _ {layers : List LayerHead} {order : Order} {before after counts : List �
         let c = counts-five in
         let d : copies ≡ five 0 (named_offer layers order).copies = made ∙ copies-five in
         record {
-          answer = λ i. record { answer = Offered (f i); counts = c i; copies = d i };
+          answer = λ i. record { answer = Ok (f i); counts = c i; copies = d i };
           work-after = (choice.chosen.same_length, choice.chosen.rest);
         }
 

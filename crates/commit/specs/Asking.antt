@@ -1,5 +1,5 @@
 -- Document 02, (i): "See the plan, then commit it". Asking: what it gives, and what it leaves. Assumes nothing.
-use Rattle.std.specs.Prelude.{ℕ, ◌≡◌, List, [], ◌∷◌, ◌++◌, map, length, drop}
+use Rattle.std.specs.Prelude.{ℕ, ◌≡◌, List, [], ◌∷◌, ◌++◌, map, length, drop, Result, Ok, Err}
 use Rattle.lists.specs.Lists.{up_to}
 use Rattle.refusal.specs.Refusals.{Outcome, result, refusal_outcome}
 use Rattle.refusal.specs.Checked.{Checked, accepted, refused, ◌>>=◌}
@@ -11,9 +11,8 @@ use Rattle.placement.specs.declared.Order.{Order}
 use Rattle.placement.specs.declared.Rule.TheVariants.{NestedFloors}
 use Rattle.split.specs.Splits.{Share, split_figure, named_split}
 use Rattle.planner.specs.Planning.{check_order, check_blocks, check_work, work_needed}
-use Rattle.commit.specs.declared.AskAnswer.{AskAnswer}
-use Rattle.commit.specs.declared.AskAnswer.TheVariants.{Offered, Refused}
 use Rattle.commit.specs.declared.AskResult.{AskResult}
+use Rattle.refusal.specs.declared.Refusal.{Refusal}
 
 -- "Asking gives the figure, counts and copies": of a split, the counts and copies of the layers below s in order
 pub record Offer : Type 0 where
@@ -50,17 +49,17 @@ ask bytes order work = do
 -- the answer as a value of the code's types
 abbrev pub ask_answer : Checked Offer → AskResult
 ask_answer (accepted offer) =
-    record { answer = Offered offer.figure; counts = five 0 offer.counts; copies = five 0 offer.copies }
-ask_answer (refused e) = record { answer = Refused e; counts = five 0 []; copies = five 0 [] }
+    record { answer = Ok offer.figure; counts = five 0 offer.counts; copies = five 0 offer.copies }
+ask_answer (refused e) = record { answer = Err e; counts = five 0 []; copies = five 0 [] }
 
 -- an offer's values: F, the counts of five layers, 0 from s on, and their copies
 abbrev pub offer_values : Offer → List ℕ
 offer_values offer = offer.figure ∷ (five 0 offer.counts ++ five 0 offer.copies)
 
 -- what the answer says, with the counts and the copies beside it
-abbrev pub ask_says : AskAnswer → (counts copies : List ℕ) → Outcome
-ask_says (Offered figure) counts copies = result (figure ∷ (counts ++ copies))
-ask_says (Refused e) counts copies = refusal_outcome e
+abbrev pub ask_says : Result ℕ Refusal → (counts copies : List ℕ) → Outcome
+ask_says (Ok figure) counts copies = result (figure ∷ (counts ++ copies))
+ask_says (Err e) counts copies = refusal_outcome e
 
 abbrev pub ask_outcome : AskResult → Outcome
 ask_outcome given = ask_says given.answer given.counts given.copies

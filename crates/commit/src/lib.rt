@@ -3,17 +3,10 @@
 
 use refusal::Refusal;
 
-// What asking gives: the figure of the split that planning would write, or the refusal.
-#[derive(Clone, Copy)]
-pub enum AskAnswer {
-    Offered(usize),
-    Refused(Refusal),
-}
-
 // The answer, with the count and the copies of each layer below s; entries from s on are 0, and so are all beside a refusal.
 #[derive(Clone, Copy)]
 pub struct AskResult {
-    pub answer: AskAnswer,
+    pub answer: Result<usize, Refusal>,
     pub counts: [usize; 5],
     pub copies: [usize; 5],
 }

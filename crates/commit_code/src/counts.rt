@@ -4,7 +4,7 @@ ghost use Rattle.refusal.specs.Checked.{verdict};
 ghost use Rattle.commit.specs.Committing.{layer_takes, check_counts};
 
 use layers::LayerHead;
-use refusal::{Refusal, Verdict};
+use refusal::Refusal;
 
 // Whether layer x may have c records: there are none, or it is below s and has blocks.
 fn layer_takes(layers: [LayerHead; 5], s: usize, x: usize, c: usize) -> bool
@@ -27,24 +27,22 @@ pub(crate) fn check_counts(
     s: usize,
     b: usize,
     counts: [usize; 5],
-) -> Verdict
+) -> Result<(), Refusal>
     ensures { result ≡ verdict (check_counts layers s b counts) }
 {
     let mut left = b;
-    let mut x: usize = 0;
-    while x < 5 {
+    for x in 0..5 {
         let c = counts[x];
         if left < c {
-            return Verdict::Refused(Refusal::BadCounts);
+            return Err(Refusal::BadCounts);
         }
         if !layer_takes(layers, s, x, c) {
-            return Verdict::Refused(Refusal::BadCounts);
+            return Err(Refusal::BadCounts);
         }
         left -= c;
-        x += 1;
     }
     if 0 < left {
-        return Verdict::Refused(Refusal::BadCounts);
+        return Err(Refusal::BadCounts);
     }
-    Verdict::Good
+    Ok(())
 }

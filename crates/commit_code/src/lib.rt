@@ -10,17 +10,16 @@ ghost use Rattle.planner.specs.Writing.{held_pack, PackHeld};
 ghost use Rattle.commit.specs.Committing.{commit_pack, commit as commit_of, CommitDone};
 
 use layers::{Base, LayerHead};
-use pack::PackAnswer;
 use placement::Order;
-use planner::{PlanAnswer, PlanResult};
-use refusal::{Refusal, Verdict};
+use planner::PlanResult;
+use refusal::Refusal;
 
 // The answer that refuses.
 fn refuse(e: Refusal) -> PlanResult
     ensures { result ≡ plan_answer (refused e) }
 {
     PlanResult {
-        answer: PlanAnswer::Refused(e),
+        answer: Err(e),
         counts: [0; 5],
     }
 }
@@ -44,19 +43,19 @@ fn commit_pack(
     let s = order.s;
     let b = order.b;
     let limits = planner_order::check_order(base, order);
-    if let Verdict::Refused(e) = limits {
+    if let Err(e) = limits {
         return refuse(e);
     }
     let some = planner_order::check_blocks(layers, s);
-    if let Verdict::Refused(e) = some {
+    if let Err(e) = some {
         return refuse(e);
     }
     let split = crate::counts::check_counts(layers, s, b, counts);
-    if let Verdict::Refused(e) = split {
+    if let Err(e) = split {
         return refuse(e);
     }
     let bytes = planner_order::check_output(b, r, out.len());
-    if let Verdict::Refused(e) = bytes {
+    if let Err(e) = bytes {
         return refuse(e);
     }
     let answer = planner_writer::write_placement(out, blocks, base, layers, order, counts);
@@ -82,8 +81,8 @@ pub fn commit(
     let dark = checked.dark;
     let answer = checked.answer;
     match answer {
-        PackAnswer::Refused(e) => refuse(e),
-        PackAnswer::Accepted(head) => {
+        Err(e) => refuse(e),
+        Ok(head) => {
             let base = Base {
                 n: head.n,
                 r: head.r,

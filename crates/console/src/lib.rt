@@ -47,6 +47,7 @@ pub fn read_all<R: Read>(reader: &mut R, buffer: &mut [u8]) -> Taken
         → IsAtEnd (R.remaining reader.new) }
 {
     let mut count: usize = 0;
+    // A while loop: a turn moves on by as many bytes as were read.
     while count < buffer.len() {
         let more = read_more(reader, buffer, count);
         let got = more.count;
@@ -77,6 +78,17 @@ pub fn read_input<R: Read>(rt: &impl Eprint, reader: &mut R, buffer: &mut [u8]) 
         let _ = rt.eprint("standard input can't be read\n");
     }
     taken
+}
+
+// Runs a program that takes a file on standard input: `answer` is given as much of it as the buffer holds. Where it can't be read, it is
+// said, and nothing is answered.
+pub fn run<F: FnOnce(&[u8])>(rt: &HostRuntime, buffer: &mut [u8], answer: F)
+    requires { F.IsAlwaysCallable answer }
+{
+    let taken = read_input(rt, &mut rt.stdin(), buffer);
+    if taken.failure.is_none() {
+        answer(&buffer[0..taken.count]);
+    }
 }
 
 // Writes to standard output, and says where it can't.

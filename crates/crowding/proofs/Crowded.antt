@@ -1,5 +1,6 @@
 -- The first crowded row as the code answers it; layers that need no test; rows of bytes. Assumes nothing.
 use Prim.Native.Nat.{ℕ, suc, ◌≤◌, ◌<◌}
+use Rattle.std.specs.Prelude.{Some, None}
 use mathlib.Core.Path.{◌≡◌, refl}
 use mathlib.Core.Bool.{false}
 use mathlib.Core.List.{List, [], ◌∷◌, map}
@@ -18,7 +19,6 @@ use Rattle.lists.proofs.UpTo.{get_d-map-up_to}
 use Rattle.packing.specs.Rows.{ascending, is_in_order, rows_at, member, together, holds, subsets, crowded, first_crowded}
 use Rattle.packing.specs.Load.{load, most}
 use Rattle.packing.specs.Answers.{row_found}
-use Rattle.packing.specs.declared.RowFound.TheVariants.{At, Nothing}
 use Rattle.packing.proofs.RowsAt.{all-rows_at}
 use Rattle.crowding.specs.Tails.{row_number}
 use Rattle.crowding.proofs.TailSets.{GoodFrom}
@@ -58,11 +58,11 @@ first-none-of-few x bound rows h =
     (λ v. omega (arith, count-le-length (λ row. member v row) rows))) rows)
 
 -- a row's number as the answer
-pub found-row : (n : ℕ) (o : Option ℕ) → n ≡ row_number o → n < 65536 → At (record { 0 = n }) ≡ row_found o
+pub found-row : (n : ℕ) (o : Option ℕ) → n ≡ row_number o → n < 65536 → Some (record { 0 = n }) ≡ row_found o
 found-row n none e h = absurd (omega arith)
 found-row n (some j) e h = rw e
 
-pub found_none : (n : ℕ) (o : Option ℕ) → n ≡ row_number o → 65536 ≤ n → ((j : ℕ) → o ≡ some j → j < 65536) → Nothing ≡ row_found o
+pub found_none : (n : ℕ) (o : Option ℕ) → n ≡ row_number o → 65536 ≤ n → ((j : ℕ) → o ≡ some j → j < 65536) → None ≡ row_found o
 found_none n none e h below = refl
 found_none n (some j) e h below = absurd (omega (arith, below j refl))
 

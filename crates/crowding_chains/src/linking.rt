@@ -17,18 +17,14 @@ pub(crate) fn link(
     ensures { SpanLinked rows.now span heads.old counts.old next.old
         heads.new counts.new next.new result }
 {
-    let from = span.from;
-    let to = span.to;
-    let mut f = from;
     let mut longest = most;
-    while f < to {
-        let v = rows[f] as usize;
+    for f in span.from..span.to {
+        let v = usize::from(rows[f]);
         next[f] = heads[v];
         heads[v] = f as u16;
         let n = counts[v] + 1;
         counts[v] = n;
-        longest = minmax::larger(longest, n as usize);
-        f += 1;
+        longest = longest.max(usize::from(n));
     }
     longest
 }

@@ -17,15 +17,12 @@ pub fn link_rows(
 {
     let r = level.r;
     let w = level.w;
-    let mut i: usize = 0;
-    let mut start: usize = 0;
     let mut most: usize = 0;
-    while i < c {
+    for i in 0..c {
+        let start = i * r;
         let end = start + r;
         let to = end - w;
         let span = Span { from: start, to };
         most = crate::linking::link(rows, span, heads, counts, next, most);
-        start = end;
-        i += 1;
     }
 }

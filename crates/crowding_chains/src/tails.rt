@@ -19,20 +19,16 @@ pub fn link_tails(
 {
     let r = level.r;
     let w = level.w;
-    let head = chain.head;
-    let count = chain.count;
-    let mut p = head as usize;
-    let mut n = count;
+    let mut p = usize::from(chain.head);
     let mut most: usize = 0;
-    while n > 0 {
+    for _ in 0..chain.count {
         let after = next[p];
         let end = (p / r + 1) * r;
         let from = p + 1;
         let to = end - w;
         let span = Span { from, to };
         most = crate::linking::link(rows, span, heads, counts, next, most);
-        p = after as usize;
-        n -= 1;
+        p = usize::from(after);
     }
     most
 }

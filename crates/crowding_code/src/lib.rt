@@ -16,7 +16,7 @@ ghost use Rattle.crowding_sums.specs.Sums.{Settles};
 use crowding::Level;
 use crowding_sums::Sets;
 pub use load::first_load;
-use packing::RowFound;
+use packing::Record;
 pub use packings::check_packings;
 pub use place::row_start;
 pub use sizes::{count_rows, first_size};
@@ -37,7 +37,7 @@ fn few_pairs(rows: &[u8], c: usize, r: usize, x: usize, bound: usize) -> bool
 }
 
 // The first of the rows that is crowded, by the search for a crowded set.
-fn search(rows: &[u8], c: usize, r: usize, x: usize, bound: usize) -> RowFound
+fn search(rows: &[u8], c: usize, r: usize, x: usize, bound: usize) -> Option<Record>
     requires c_bound { (c ≤ 4096) × (r ≤ 5) × (x < r) × (c * r ≤ length rows.now) }
     requires order { All (λ row. T (ascending 0 row)) (rows_at r c rows.now) }
     ensures { result ≡ row_found (first_crowded x bound (rows_at r c rows.now)) }
@@ -46,9 +46,9 @@ fn search(rows: &[u8], c: usize, r: usize, x: usize, bound: usize) -> RowFound
     let level = Level { r, w: x };
     let least = crowding_search::least_crowded(&rows[0..end], c, level, bound);
     if least.0 < 65536 {
-        return RowFound::At(least);
+        return Some(least);
     }
-    RowFound::Nothing
+    None
 }
 
 // Whether the sets are of three nodes or more, the rows many, and none of those rows is crowded that are left when the sets are counted
@@ -75,7 +75,7 @@ fn few_sums(rows: &[u8], c: usize, r: usize, x: usize, bound: usize) -> bool
         return true;
     }
     let found = search(&kept, m, r, x, bound);
-    if let RowFound::At(_) = found {
+    if let Some(_) = found {
         return false;
     }
     true
@@ -83,19 +83,19 @@ fn few_sums(rows: &[u8], c: usize, r: usize, x: usize, bound: usize) -> bool
 
 // Refusal 7 of a layer: the first of c rows of r bytes, all ascending, that holds x+1 nodes which stand together in
 // more than `bound` of the rows.
-pub fn first_crowded(rows: &[u8], c: usize, r: usize, x: usize, bound: usize) -> RowFound
+pub fn first_crowded(rows: &[u8], c: usize, r: usize, x: usize, bound: usize) -> Option<Record>
     requires limits { (c ≤ 4096) × (r ≤ 5) × (x < r) × (c * r ≤ length rows.now) }
     requires order { All (λ row. T (ascending 0 row)) (rows_at r c rows.now) }
     ensures { result ≡ row_found (first_crowded x bound (rows_at r c rows.now)) }
 {
     if c <= bound {
-        return RowFound::Nothing;
+        return None;
     }
     if few_pairs(rows, c, r, x, bound) {
-        return RowFound::Nothing;
+        return None;
     }
     if few_sums(rows, c, r, x, bound) {
-        return RowFound::Nothing;
+        return None;
     }
     search(rows, c, r, x, bound)
 }

@@ -11,18 +11,25 @@ ghost use Rattle.crowding_code.specs.Load.{first_load};
 
 use crate::place::row_start;
 use layers::LayerHead;
-use packing::RowFound;
-use refusal::{Refusal, Verdict};
+use packing::Record;
+use refusal::Refusal;
 
 // The first row of layer x that is crowded. The load of layer 0 settles it where no node stands in more than `bound` of its rows.
-fn layer_crowded(rows: &[u8], c: usize, r: usize, x: usize, bound: usize, load: usize) -> RowFound
+fn layer_crowded(
+    rows: &[u8],
+    c: usize,
+    r: usize,
+    x: usize,
+    bound: usize,
+    load: usize,
+) -> Option<Record>
     requires limits { (c ≤ 4096) × (r ≤ 5) × (x < r) × (c * r ≤ length rows.now) }
     requires order { All (λ row. T (ascending 0 row)) (rows_at r c rows.now) }
     requires counted { x ≡ 0 → load ≡ most 256 (rows_at r c rows.now) }
     ensures { result ≡ row_found (first_crowded x bound (rows_at r c rows.now)) }
 {
     if x == 0 && load <= bound {
-        return RowFound::Nothing;
+        return None;
     }
     crate::first_crowded(rows, c, r, x, bound)
 }
@@ -36,23 +43,21 @@ pub fn check_packings(
     layers: usize,
     heads: [LayerHead; 5],
     load: usize,
-) -> Verdict
+) -> Result<(), Refusal>
     requires packings_asked { PackingsAsked r layers heads bytes.now at }
     requires counted { 0 < layers → load ≡ first_load r heads bytes.now at }
     ensures { result
         ≡ verdict (check_packings r at (layers_at r (take layers heads) (drop at bytes.now))) }
 {
     let mut start = at;
-    let mut x: usize = 0;
-    while x < layers {
+    for x in 0..layers {
         let head = heads[x];
         let c = head.size;
         let found = layer_crowded(&bytes[start..], c, r, x, head.bound, load);
-        if let RowFound::At(row) = found {
-            return Verdict::Refused(Refusal::Crowded(row_start(start, r, row)));
+        if let Some(row) = found {
+            return Err(Refusal::Crowded(row_start(start, r, row)));
         }
         start += c * r;
-        x += 1;
     }
-    Verdict::Good
+    Ok(())
 }

@@ -11,10 +11,8 @@ pub fn count_rows(layers: usize, heads: [LayerHead; 5]) -> usize
     ensures { result ≡ sizes (take layers heads) }
 {
     let mut sum: usize = 0;
-    let mut x: usize = 0;
-    while x < layers {
+    for x in 0..layers {
         sum += heads[x].size;
-        x += 1;
     }
     sum
 }

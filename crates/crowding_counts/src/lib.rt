@@ -12,16 +12,12 @@ fn count_nodes(rows: &[u8], span: Span, counts: &mut [u16], most: usize) -> usiz
     requires { SpanToCount rows.now span counts.old most }
     ensures { SpanCounted rows.now span counts.old counts.new result }
 {
-    let from = span.from;
-    let to = span.to;
-    let mut f = from;
     let mut largest = most;
-    while f < to {
-        let v = rows[f] as usize;
+    for f in span.from..span.to {
+        let v = usize::from(rows[f]);
         let n = counts[v] + 1;
         counts[v] = n;
-        largest = minmax::larger(largest, n as usize);
-        f += 1;
+        largest = largest.max(usize::from(n));
     }
     largest
 }
@@ -32,18 +28,14 @@ fn count_tails(rows: &[u8], r: usize, chain: Chain, next: &[u16], counts: &mut [
     requires counts_len { (length counts.old ≡ 256) × AtMost 0 counts.old }
     ensures { result ≡ largest_after 0 (tails_at r rows.now (positions next.now chain)) }
 {
-    let head = chain.head;
-    let count = chain.count;
-    let mut p = head as usize;
-    let mut n = count;
+    let mut p = usize::from(chain.head);
     let mut most: usize = 0;
-    while n > 0 {
+    for _ in 0..chain.count {
         let from = p + 1;
         let to = (p / r + 1) * r;
         let span = Span { from, to };
         most = count_nodes(rows, span, counts, most);
-        p = next[p] as usize;
-        n -= 1;
+        p = usize::from(next[p]);
     }
     most
 }
@@ -58,7 +50,7 @@ pub fn most_after(rows: &[u8], level: Level, chain: Chain, next: &[u16]) -> usiz
     let w = level.w;
     let count = chain.count;
     if w != 1 {
-        return count as usize;
+        return usize::from(count);
     }
     let mut counts = [0u16; 256];
     count_tails(rows, r, chain, next, &mut counts)

@@ -8,22 +8,14 @@ ghost use Rattle.crowding.specs.Chains.{lowest_at, positions};
 use crowding::Chain;
 use packing::{Node, Record};
 
-// `minmax::larger` on bytes, many of which are compared at once.
-fn higher(a: u8, b: u8) -> u8
-    ensures { result ≡ max a b }
-{
-    if a <= b { b } else { a }
-}
-
-// The highest node, node 0 where there is none.
+// The highest node, node 0 where there is none; with no exit between the bytes, so that many are compared at once.
+#[tactic(auto, using(lists::proofs::Largest::largest_more, lists::proofs::Largest::largest_all))]
 pub fn highest(rows: &[u8]) -> Node
     ensures { result.0 ≡ largest rows.now }
 {
-    let mut p: usize = 0;
     let mut high: u8 = 0;
-    while p < rows.len() {
-        high = higher(high, rows[p]);
-        p += 1;
+    for v in rows {
+        high = high.max(*v);
     }
     Node(high)
 }
@@ -33,15 +25,11 @@ pub fn lowest(r: usize, chain: Chain, next: &[u16], least: Record) -> Record
     requires { (0 < r) × All (λ p. p < length next.now) (positions next.now chain) }
     ensures { result.0 ≡ lowest_at r least.0 (positions next.now chain) }
 {
-    let head = chain.head;
-    let count = chain.count;
-    let mut p = head as usize;
-    let mut n = count;
+    let mut p = usize::from(chain.head);
     let mut low = least.0;
-    while n > 0 {
-        low = minmax::smaller(low, p / r);
-        p = next[p] as usize;
-        n -= 1;
+    for _ in 0..chain.count {
+        low = low.min(p / r);
+        p = usize::from(next[p]);
     }
     Record(low)
 }

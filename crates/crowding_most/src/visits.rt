@@ -20,10 +20,10 @@ fn visit(rows: &[u8], search: Search, chain: Chain, next: &mut [u16]) -> usize
     let head = chain.head;
     let count = chain.count;
     if w == 0 {
-        return count as usize;
+        return usize::from(count);
     }
     if w == 1 {
-        return minmax::larger(bound, crowding_counts::most_after(rows, level, chain, next));
+        return bound.max(crowding_counts::most_after(rows, level, chain, next));
     }
     let mut heads = [0u16; 256];
     let mut counts = [0u16; 256];

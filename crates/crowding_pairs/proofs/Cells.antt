@@ -100,8 +100,8 @@ pub record Part (row table₀ table : List ℕ) (k : ℕ) : Type 0 where
   pub cell : (p : ℕ) → get_or table p 0 + coded p (drop k row) ≡ get_or table₀ p 0 + coded p row
   pub few : AtMost (60000 + 5 * k) table
 
-pub part-start : {row table : List ℕ} → Room 60000 row table → Part row table table 0
-part-start room = record { within = omega arith; same = refl; cell = λ p. refl; few = λ p. omega (arith, room.few p) }
+pub part_start : {row table : List ℕ} → Room 60000 row table → Part row table table 0
+part_start room = record { within = omega arith; same = refl; cell = λ p. refl; few = λ p. omega (arith, room.few p) }
 
 module _ {row table₀ table : List ℕ} {k : ℕ} (part : Part row table₀ table k) (h : k < length row) where
   -- the nodes after place k
@@ -121,28 +121,28 @@ module _ {row table₀ table : List ℕ} {k : ℕ} (part : Part row table₀ tab
     few = λ p. omega (arith, part.few p, room.short);
   }
 
-  pub part-next : {table' : List ℕ} → length row ≤ 5 → Raised (λ p. with_low p (get_or row k 0) rest) table table'
+  pub part_next : {table' : List ℕ} (low : ℕ) → low ≡ get_or row k 0 → length row ≤ 5 → Raised (λ p. with_low p low rest) table table'
       → Part row table₀ table' (k + 1)
-  part-next {table'} five r = record {
+  part_next {table'} low e five r = record {
     within = omega arith;
     same = r.same ∙ part.same;
     cell = λ p.
-        let split : coded p (drop k row) ≡ with_low p (get_or row k 0) rest + coded p (drop (k + 1) row) =
-        rw (drop-next row k 0 h, rest-is) (coded-cons p (get_or row k 0) (drop (k + 1) row)) in
+        let split : coded p (drop k row) ≡ with_low p low rest + coded p (drop (k + 1) row) =
+        rw (e, drop-next row k 0 h, rest-is) (coded-cons p (get_or row k 0) (drop (k + 1) row)) in
         omega (arith, r.cell p, part.cell p, split);
     few = λ p. omega (
       arith,
       r.cell p,
       part.few p,
-      count-le-length (λ v. eqb p (pair_number v (get_or row k 0))) rest,
+      count-le-length (λ v. eqb p (pair_number v low)) rest,
       rest-short five,
     );
   }
 
-pub part-all : {row table₀ table : List ℕ} {k : ℕ} → Part row table₀ table k → length row ≤ k
+pub part_all : {row table₀ table : List ℕ} {k : ℕ} → Part row table₀ table k → length row ≤ k
     → Raised (λ p. coded p row) table₀ table
 unfolding coded
-part-all {row} {table₀} {table} {k} part h = record {
+part_all {row} {table₀} {table} {k} part h = record {
   same = part.same;
   cell = λ p. sym (add-zero (get_or table p 0)) ∙ rw (drop_of_length-le row h) at (part.cell p);
 }

@@ -1,6 +1,6 @@
 -- What is counted of all rows, row by row. Assumes nothing.
 use Prim.Native.Nat.{ℕ, zero, suc, ◌+◌, ◌*◌, ◌-◌, ◌≤◌, ◌<◌}
-use native.Mathlib.Nat.{add-zero, zero-mul}
+use native.Mathlib.Nat.{add-zero}
 use native.Mathlib.Omega.{arith}
 use mathlib.Core.Path.{◌≡◌, refl, sym, ap, ◌∙◌}
 use mathlib.Core.List.{List, [], ◌∷◌, map, map-append}
@@ -48,47 +48,44 @@ total-next f r i rows =
     let last = take r (drop (i * r) rows) in
     rw (rows_at-add r i 1 rows, map-append f (rows_at r i rows) (last ∷ []), total-append (map f (rows_at r i rows)) (f last ∷ []), add-zero (f last))
 
--- what `by` says of the first i rows is counted, at most ten a row in one cell; the next row begins at byte `at`
-pub record Turns (by : ℕ → List ℕ → ℕ) (rows : List ℕ) (c r : ℕ) (table₀ table : List ℕ) (i at : ℕ) : Type 0 where
+-- what `by` says of the first i rows is counted, at most ten a row in one cell
+pub record Turns (by : ℕ → List ℕ → ℕ) (rows : List ℕ) (c r : ℕ) (table₀ table : List ℕ) (i : ℕ) : Type 0 where
   pub within : i ≤ c
-  pub place : at ≡ i * r
   pub same : length table ≡ length table₀
   pub cell : (p : ℕ) → get_or table p 0 ≡ get_or table₀ p 0 + total (map (by p) (rows_at r i rows))
   pub few : AtMost (10 * i) table
 
-pub turns-start : {by : ℕ → List ℕ → ℕ} {rows : List ℕ} {c r : ℕ} {table : List ℕ} → AtMost 0 table → Turns by rows c r table table 0 0
+pub turns-start : {by : ℕ → List ℕ → ℕ} {rows : List ℕ} {c r : ℕ} {table : List ℕ} → AtMost 0 table → Turns by rows c r table table 0
 unfolding rows_at total
 turns-start {r = r} {table = table} none = record {
   within = omega arith;
-  place = sym (zero-mul r);
   same = refl;
   cell = λ p. sym (add-zero (get_or table p 0));
   few = none;
 }
 
-module _ {by : ℕ → List ℕ → ℕ} {rows : List ℕ} {c r : ℕ} {table₀ table : List ℕ} {i at : ℕ} (t : Turns by rows c r table₀ table i at)
+module _ {by : ℕ → List ℕ → ℕ} {rows : List ℕ} {c r : ℕ} {table₀ table : List ℕ} {i : ℕ} (t : Turns by rows c r table₀ table i)
     (fit : RowsFit rows c r) (h : i < c) where
   -- the row's bytes
   abbrev bytes : List ℕ
-  bytes = take (at + r - at) (drop at rows)
+  bytes = take (i * r + r - i * r) (drop (i * r) rows)
 
   pub bytes-are : bytes ≡ take r (drop (i * r) rows)
-  bytes-are = let e : at + r - at ≡ r = omega arith in rw (e, t.place)
+  bytes-are = let e : i * r + r - i * r ≡ r = omega arith in rw e
 
   pub bytes-five : length bytes ≤ 5
   bytes-five = rw bytes-are (omega (arith, length-take r (drop (i * r) rows), fit.five))
 
-  pub turn-fits : at + r ≤ length rows
-  turn-fits = omega (arith, t.place, run-end-le r h, fit.whole)
+  pub turn-fits : i * r + r ≤ length rows
+  turn-fits = omega (arith, run-end-le r h, fit.whole)
 
   pub turn-few : AtMost 60000 table
   turn-few p = omega (arith, t.few p, fit.few)
 
   pub turn-next : {table' : List ℕ} → ((p : ℕ) → by p bytes ≤ 10) → Raised (λ p. by p bytes) table table'
-      → Turns by rows c r table₀ table' (i + 1) (at + r)
+      → Turns by rows c r table₀ table' (i + 1)
   turn-next {table'} ten raised = record {
     within = omega arith;
-    place = omega (arith, t.place);
     same = raised.same ∙ t.same;
     cell = λ p.
         let is : by p bytes ≡ by p (take r (drop (i * r) rows)) = ap (by p) bytes-are in
@@ -96,15 +93,15 @@ module _ {by : ℕ → List ℕ → ℕ} {rows : List ℕ} {c r : ℕ} {table₀
     few = λ p. omega (arith, raised.cell p, t.few p, ten p);
   }
 
-pub turns-all : {by : ℕ → List ℕ → ℕ} {rows : List ℕ} {c r : ℕ} {table₀ table : List ℕ} {i at : ℕ}
-    → Turns by rows c r table₀ table i at → c ≤ i → Raised (λ p. total (map (by p) (rows_at r c rows))) table₀ table
+pub turns-all : {by : ℕ → List ℕ → ℕ} {rows : List ℕ} {c r : ℕ} {table₀ table : List ℕ} {i : ℕ}
+    → Turns by rows c r table₀ table i → c ≤ i → Raised (λ p. total (map (by p) (rows_at r c rows))) table₀ table
 turns-all {c = c} {i = i} t h =
     let all : i ≡ c = omega (arith, t.within) in
     record { same = t.same; cell = rw all at t.cell }
 
 -- the table of pairs has room for a row more
-pub turn-room : {rows : List ℕ} {c r : ℕ} {table₀ table : List ℕ} {i at : ℕ} → Turns coded rows c r table₀ table i at
-    → RowsRoom rows c r table₀ → i < c → Room 60000 (take (at + r - at) (drop at rows)) table
+pub turn-room : {rows : List ℕ} {c r : ℕ} {table₀ table : List ℕ} {i : ℕ} → Turns coded rows c r table₀ table i
+    → RowsRoom rows c r table₀ → i < c → Room 60000 (take (i * r + r - i * r) (drop (i * r) rows)) table
 turn-room t room h = record {
   short = bytes-five t room.fit h;
   cells = rw t.same room.empty.cells;

@@ -8,26 +8,21 @@ fn count_after(nodes: &[u8], low: usize, table: &mut [u16])
     requires low_bound { low < 256 }
     ensures { Raised (λ p. with_low p low nodes.now) table.old table.new }
 {
-    let mut i: usize = 0;
-    while i < nodes.len() {
-        let v = nodes[i] as usize;
+    for node in nodes {
+        let v = usize::from(*node);
         let p = v * (v + 1) / 2 + low;
-        let n = table[p];
-        table[p] = n + 1;
-        i += 1;
+        table[p] += 1;
     }
 }
 
 // Counts the pairs of the row's nodes.
+#[tactic(auto, using(crate::proofs::Cells::part_start, crate::proofs::Cells::part_room))]
 pub(crate) fn count_row(row: &[u8], table: &mut [u16])
     requires { Room 60000 row.now table.old }
     ensures { Raised (λ p. coded p row.now) table.old table.new }
 {
-    let mut k: usize = 0;
-    while k < row.len() {
-        let low = row[k] as usize;
-        let from = k + 1;
-        count_after(&row[from..], low, table);
-        k = from;
+    for (k, node) in row.iter().enumerate() {
+        let low = usize::from(*node);
+        count_after(&row[k + 1..], low, table);
     }
 }

@@ -11,13 +11,10 @@ fn count_rows(rows: &[u8], c: usize, r: usize, table: &mut [u16])
     requires { RowsRoom rows.now c r table.old }
     ensures { Raised (λ p. coded_rows p (rows_at r c rows.now)) table.old table.new }
 {
-    let mut i: usize = 0;
-    let mut at: usize = 0;
-    while i < c {
+    for i in 0..c {
+        let at = i * r;
         let end = at + r;
         count_row(&rows[at..end], table);
-        at = end;
-        i += 1;
     }
 }
 
@@ -26,41 +23,23 @@ fn count_all(rows: &[u8], c: usize, r: usize, table: &mut [u16])
     requires { RowsRoom rows.now c r table.old }
     ensures { Raised (λ p. coded_rows p (rows_at r c rows.now)) table.old table.new }
 {
-    if r == 5 {
-        count_rows(rows, c, 5, table);
-        return;
+    match r {
+        5 => count_rows(rows, c, 5, table),
+        4 => count_rows(rows, c, 4, table),
+        3 => count_rows(rows, c, 3, table),
+        2 => count_rows(rows, c, 2, table),
+        _ => count_rows(rows, c, r, table),
     }
-    if r == 4 {
-        count_rows(rows, c, 4, table);
-        return;
-    }
-    if r == 3 {
-        count_rows(rows, c, 3, table);
-        return;
-    }
-    if r == 2 {
-        count_rows(rows, c, 2, table);
-        return;
-    }
-    count_rows(rows, c, r, table);
 }
 
-// `minmax::larger` on 16 bits, many of which are compared at once.
-fn larger(a: u16, b: u16) -> u16
-    ensures { result ≡ max a b }
-{
-    if a <= b { b } else { a }
-}
-
-// The largest count, 0 where there is none.
+// The largest count, 0 where there is none; with no exit between the counts, so that many are compared at once.
+#[tactic(auto, using(lists::proofs::Largest::largest_more, lists::proofs::Largest::largest_all))]
 pub fn most_of(table: &[u16]) -> u16
     ensures { result ≡ largest table.now }
 {
     let mut most: u16 = 0;
-    let mut i: usize = 0;
-    while i < table.len() {
-        most = larger(most, table[i]);
-        i += 1;
+    for n in table {
+        most = most.max(*n);
     }
     most
 }
@@ -73,5 +52,5 @@ pub fn most_pairs(rows: &[u8], c: usize, r: usize) -> usize
 {
     let mut table = [0u16; 32896];
     count_all(rows, c, r, &mut table);
-    most_of(&table) as usize
+    usize::from(most_of(&table))
 }

@@ -12,6 +12,7 @@ fn past_blocks(counts: &[u16], first: usize, v: usize, bound: usize) -> usize
     ensures short_from { ShortFrom result v bound counts.now }
 {
     let mut end = v;
+    // A while loop: a turn moves down by sixteen nodes, as long as more are left.
     while end - first > 16 {
         let from = end - 16;
         if crowding_pairs::most_of(&counts[from..end]) as usize > bound {

@@ -62,6 +62,7 @@ pub(crate) fn children(
     let first = low.0 as usize;
     let mut v = high.0 as usize + 1;
     let mut found = least;
+    // A while loop: a turn moves down to the next long chain.
     while v > first {
         v = crate::long::next_long(counts, first, v, bound);
         let count = counts[v];

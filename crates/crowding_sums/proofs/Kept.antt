@@ -1,6 +1,6 @@
 -- Rows that are kept, one after the other. Assumes nothing.
 use Prim.Native.Nat.{ℕ, suc, ◌+◌, ◌*◌, ◌-◌, ◌≤◌, ◌<◌}
-use native.Mathlib.Nat.{zero-mul, le_refl, mul-le-mul}
+use native.Mathlib.Nat.{le_refl, mul-le-mul}
 use native.Mathlib.Omega.{arith}
 use mathlib.Core.Path.{◌≡◌, refl, sym, ap, ◌∙◌}
 use mathlib.Core.Bool.{Bool, true, false, cond}
@@ -40,36 +40,35 @@ kept-le f (row ∷ rows) = go (f row) (kept-le f rows)
     go true le = omega arith
     go false le = omega arith
 
--- of the first i rows those that pass, m of them, were written, up to byte `to`; the next row begins at byte `at`
-pub record Keeping (f : List ℕ → Bool) (rows : List ℕ) (c r : ℕ) (kept₀ kept : List ℕ) (i at m to : ℕ) : Type 0 where
+-- of the first i rows those that pass, m of them, were written, up to byte `to`
+pub record Keeping (f : List ℕ → Bool) (rows : List ℕ) (c r : ℕ) (kept₀ kept : List ℕ) (i m to : ℕ) : Type 0 where
   pub within : i ≤ c
-  pub place : at ≡ i * r
   pub many : m ≡ length (kept_of f (rows_at r i rows))
   pub end : to ≡ length (flatten (kept_of f (rows_at r i rows)))
   pub same : length kept ≡ length kept₀
   pub written : kept ≡ flatten (kept_of f (rows_at r i rows)) ++ drop to kept₀
 
-pub kept-few : {f : List ℕ → Bool} {rows : List ℕ} {c r : ℕ} {kept₀ kept : List ℕ} {i at m to : ℕ} → Keeping f rows c r kept₀ kept i at m to → m ≤ i
+pub kept-few : {f : List ℕ → Bool} {rows : List ℕ} {c r : ℕ} {kept₀ kept : List ℕ} {i m to : ℕ} → Keeping f rows c r kept₀ kept i m to → m ≤ i
 kept-few {f} {rows} {r = r} {i = i} k = omega (arith, k.many, kept-le f (rows_at r i rows), length-rows_at r i rows)
 
-pub keeping_start : {f : List ℕ → Bool} {rows : List ℕ} {c r : ℕ} {kept : List ℕ} → Keeping f rows c r kept kept 0 0 0 0
+pub keeping_start : {f : List ℕ → Bool} {rows : List ℕ} {c r : ℕ} {kept : List ℕ} → Keeping f rows c r kept kept 0 0 0
 unfolding rows_at kept_of flatten
-keeping_start {r = r} = record { within = omega arith; place = sym (zero-mul r); many = refl; end = refl; same = refl; written = refl }
+keeping_start = record { within = omega arith; many = refl; end = refl; same = refl; written = refl }
 
-module _ {f : List ℕ → Bool} {rows : List ℕ} {c r : ℕ} {kept₀ kept : List ℕ} {i at m to : ℕ} (k : Keeping f rows c r kept₀ kept i at m to)
+module _ {f : List ℕ → Bool} {rows : List ℕ} {c r : ℕ} {kept₀ kept : List ℕ} {i m to : ℕ} (k : Keeping f rows c r kept₀ kept i m to)
     (whole : c * r ≤ length rows) (room : c * r ≤ length kept₀) (h : i < c) where
   -- the rows so far, those of them that are kept, and the next row
   abbrev before : List (List ℕ)
   before = kept_of f (rows_at r i rows)
 
   abbrev bytes : List ℕ
-  bytes = take (at + r - at) (drop at rows)
+  bytes = take (i * r + r - i * r) (drop (i * r) rows)
 
   bytes-are : bytes ≡ take r (drop (i * r) rows)
-  bytes-are = let e : at + r - at ≡ r = omega arith in rw (e, k.place)
+  bytes-are = let e : i * r + r - i * r ≡ r = omega arith in rw e
 
-  pub row_fits : at + r ≤ length rows
-  row_fits = omega (arith, k.place, run-end-le r h, whole)
+  pub row_fits : i * r + r ≤ length rows
+  row_fits = omega (arith, run-end-le r h, whole)
 
   bytes-length : length bytes ≡ r
   bytes-length =
@@ -113,10 +112,9 @@ module _ {f : List ℕ → Bool} {rows : List ℕ} {c r : ℕ} {kept₀ kept : L
   flat-more = rw (flatten-append before (bytes ∷ []), append-nil bytes)
 
   -- the next row is left out
-  pub keeping-past : f bytes ≡ false → Keeping f rows c r kept₀ kept (i + 1) (at + r) m to
+  pub keeping-past : f bytes ≡ false → Keeping f rows c r kept₀ kept (i + 1) m to
   keeping-past e = record {
     within = omega arith;
-    place = omega (arith, k.place);
     many = k.many ∙ ap length (sym same);
     end = k.end ∙ ap (λ l. length (flatten l)) (sym same);
     same = k.same;
@@ -128,10 +126,9 @@ module _ {f : List ℕ → Bool} {rows : List ℕ} {c r : ℕ} {kept₀ kept : L
 
   -- the next row is kept
   pub keeping-next : f bytes ≡ true → {last : List ℕ} → last ≡ over_start bytes (take (length kept - to) (drop to kept))
-      → Keeping f rows c r kept₀ (given_back kept to last) (i + 1) (at + r) (m + 1) (to + r)
+      → Keeping f rows c r kept₀ (given_back kept to last) (i + 1) (m + 1) (to + r)
   keeping-next e {last} is = record {
     within = omega arith;
-    place = omega (arith, k.place);
     many = omega (arith, k.many, ap length more, length-append before (bytes ∷ []));
     end = omega (arith, k.end, ap length flat, length-append (flatten before) bytes, bytes-length);
     same = ap length put
@@ -148,8 +145,8 @@ module _ {f : List ℕ → Bool} {rows : List ℕ} {c r : ℕ} {kept₀ kept : L
       flat : flatten (kept_of f (rows_at r (i + 1) rows)) ≡ flatten before ++ bytes
       flat = rw more flat-more
 
-pub keeping_all : {f : List ℕ → Bool} {rows : List ℕ} {c r : ℕ} {kept₀ kept : List ℕ} {i at m to : ℕ}
-    → Keeping f rows c r kept₀ kept i at m to → c * r ≤ length rows → c ≤ i → KeptRows f (rows_at r c rows) r m kept
+pub keeping_all : {f : List ℕ → Bool} {rows : List ℕ} {c r : ℕ} {kept₀ kept : List ℕ} {i m to : ℕ}
+    → Keeping f rows c r kept₀ kept i m to → c * r ≤ length rows → c ≤ i → KeptRows f (rows_at r c rows) r m kept
 keeping_all {f} {rows} {c} {r} {i = i} {to = to} k whole h =
     let all : i ≡ c = omega (arith, k.within) in
     let lengths : All (λ row. length row ≡ r) (kept_of f (rows_at r c rows)) =

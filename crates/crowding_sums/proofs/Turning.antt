@@ -1,5 +1,5 @@
 -- The sums of a row's sets, and of all rows. Assumes nothing.
-use Prim.Native.Nat.{ℕ, ◌+◌, ◌-◌, ◌%◌, ◌≤◌, ◌<◌}
+use Prim.Native.Nat.{ℕ, ◌+◌, ◌*◌, ◌-◌, ◌%◌, ◌≤◌, ◌<◌}
 use native.Mathlib.Omega.{arith}
 use mathlib.Core.Path.{◌≡◌, refl, ◌∙◌}
 use mathlib.Core.List.{List}
@@ -25,9 +25,9 @@ pub roomier : {weights : List ℕ} {sum base most : ℕ} {nodes table : List ℕ
 roomier le room = record { look = room.look; few = λ p. omega (arith, room.few p, le) }
 
 -- the table has room for a row more
-pub turn-room : {rows : List ℕ} {c r d : ℕ} {weights table₀ table : List ℕ} {by : ℕ → List ℕ → ℕ} {i at : ℕ}
-    → Turns by rows c r table₀ table i at → ToCount rows c r d weights table₀ → i < c
-    → let bytes = take (at + r - at) (drop at rows) in Room weights (weigh weights bytes) 60000 bytes table
+pub turn-room : {rows : List ℕ} {c r d : ℕ} {weights table₀ table : List ℕ} {by : ℕ → List ℕ → ℕ} {i : ℕ}
+    → Turns by rows c r table₀ table i → ToCount rows c r d weights table₀ → i < c
+    → let bytes = take (i * r + r - i * r) (drop (i * r) rows) in Room weights (weigh weights bytes) 60000 bytes table
 turn-room t given h = record {
   look = record {
     short = bytes-five t given.look.fit h;

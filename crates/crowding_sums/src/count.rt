@@ -10,7 +10,7 @@ pub(crate) fn weight(weights: &[u16], v: u8) -> usize
     requires { v < length weights.now }
     ensures { result ≡ get_or weights.now v 0 }
 {
-    weights[v as usize] as usize
+    usize::from(weights[usize::from(v)])
 }
 
 // The sum of the nodes' weights.
@@ -19,10 +19,8 @@ pub(crate) fn sum_of(nodes: &[u8], weights: &[u16]) -> usize
     ensures { result ≡ weigh weights.now nodes.now }
 {
     let mut sum: usize = 0;
-    let mut i: usize = 0;
-    while i < nodes.len() {
-        sum += weight(weights, nodes[i]);
-        i += 1;
+    for v in nodes {
+        sum += weight(weights, *v);
     }
     sum
 }
@@ -33,8 +31,7 @@ fn count_sum(sum: usize, table: &mut [u16])
     ensures { Raised (λ p. tally (in_cell p sum) 0) table.old table.new }
 {
     let cell = sum % 65536;
-    let n = table[cell];
-    table[cell] = n + 1;
+    table[cell] += 1;
 }
 
 // Counts the sums that are left with one of the nodes left out.
@@ -42,11 +39,9 @@ fn count_without_one(nodes: &[u8], weights: &[u16], sum: usize, table: &mut [u16
     requires { Room weights.now sum 65000 nodes.now table.old }
     ensures { Raised (λ p. leaving weights.now (in_cell p) 1 sum nodes.now) table.old table.new }
 {
-    let mut i: usize = 0;
-    while i < nodes.len() {
-        let left = sum - weight(weights, nodes[i]);
+    for v in nodes {
+        let left = sum - weight(weights, *v);
         count_sum(left, table);
-        i += 1;
     }
 }
 
@@ -55,12 +50,9 @@ fn count_without_two(nodes: &[u8], weights: &[u16], sum: usize, table: &mut [u16
     requires { Room weights.now sum 60000 nodes.now table.old }
     ensures { Raised (λ p. leaving weights.now (in_cell p) 2 sum nodes.now) table.old table.new }
 {
-    let mut i: usize = 0;
-    while i < nodes.len() {
-        let left = sum - weight(weights, nodes[i]);
-        let from = i + 1;
-        count_without_one(&nodes[from..], weights, left, table);
-        i = from;
+    for (i, v) in nodes.iter().enumerate() {
+        let left = sum - weight(weights, *v);
+        count_without_one(&nodes[i + 1..], weights, left, table);
     }
 }
 
@@ -71,13 +63,9 @@ pub(crate) fn count_row(row: &[u8], weights: &[u16], d: usize, table: &mut [u16]
     ensures { Raised (λ p. leaving_row weights.now (in_cell p) d row.now) table.old table.new }
 {
     let sum = sum_of(row, weights);
-    if d == 0 {
-        count_sum(sum, table);
-        return;
+    match d {
+        0 => count_sum(sum, table),
+        1 => count_without_one(row, weights, sum, table),
+        _ => count_without_two(row, weights, sum, table),
     }
-    if d == 1 {
-        count_without_one(row, weights, sum, table);
-        return;
-    }
-    count_without_two(row, weights, sum, table);
 }

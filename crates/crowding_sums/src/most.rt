@@ -9,7 +9,7 @@ fn cell(sum: usize, table: &[u16]) -> usize
     requires { length table.now ≡ 65536 }
     ensures { result ≡ get_or table.now (sum % 65536) 0 }
 {
-    table[sum % 65536] as usize
+    usize::from(table[sum % 65536])
 }
 
 // The most of the sums that are left with one of the nodes left out.
@@ -18,11 +18,9 @@ fn most_without_one(nodes: &[u8], weights: &[u16], sum: usize, table: &[u16]) ->
     ensures { result ≡ most_left weights.now table.now 1 sum nodes.now }
 {
     let mut most: usize = 0;
-    let mut i: usize = 0;
-    while i < nodes.len() {
-        let left = sum - weight(weights, nodes[i]);
-        most = minmax::larger(most, cell(left, table));
-        i += 1;
+    for v in nodes {
+        let left = sum - weight(weights, *v);
+        most = most.max(cell(left, table));
     }
     most
 }
@@ -33,12 +31,9 @@ fn most_without_two(nodes: &[u8], weights: &[u16], sum: usize, table: &[u16]) ->
     ensures { result ≡ most_left weights.now table.now 2 sum nodes.now }
 {
     let mut most: usize = 0;
-    let mut i: usize = 0;
-    while i < nodes.len() {
-        let left = sum - weight(weights, nodes[i]);
-        let from = i + 1;
-        most = minmax::larger(most, most_without_one(&nodes[from..], weights, left, table));
-        i = from;
+    for (i, v) in nodes.iter().enumerate() {
+        let left = sum - weight(weights, *v);
+        most = most.max(most_without_one(&nodes[i + 1..], weights, left, table));
     }
     most
 }
@@ -50,11 +45,9 @@ pub(crate) fn most_of_row(row: &[u8], weights: &[u16], d: usize, table: &[u16]) 
     ensures { result ≡ most_of weights.now table.now d row.now }
 {
     let sum = sum_of(row, weights);
-    if d == 0 {
-        return cell(sum, table);
+    match d {
+        0 => cell(sum, table),
+        1 => most_without_one(row, weights, sum, table),
+        _ => most_without_two(row, weights, sum, table),
     }
-    if d == 1 {
-        return most_without_one(row, weights, sum, table);
-    }
-    most_without_two(row, weights, sum, table)
 }

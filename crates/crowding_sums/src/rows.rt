@@ -16,13 +16,10 @@ fn count_rows(rows: &[u8], c: usize, r: usize, d: usize, weights: &[u16], table:
     ensures { Raised (λ p. total (map (leaving_row weights.now (in_cell p) d) (rows_at r c rows.now)))
         table.old table.new }
 {
-    let mut i: usize = 0;
-    let mut at: usize = 0;
-    while i < c {
+    for i in 0..c {
+        let at = i * r;
         let end = at + r;
         count_row(&rows[at..end], weights, d, table);
-        at = end;
-        i += 1;
     }
 }
 
@@ -32,27 +29,14 @@ fn count_all(rows: &[u8], c: usize, r: usize, d: usize, weights: &[u16], table: 
     ensures { Raised (λ p. total (map (leaving_row weights.now (in_cell p) d) (rows_at r c rows.now)))
         table.old table.new }
 {
-    if r == 5 {
-        if d == 2 {
-            count_rows(rows, c, 5, 2, weights, table);
-            return;
-        }
-        if d == 1 {
-            count_rows(rows, c, 5, 1, weights, table);
-            return;
-        }
-        count_rows(rows, c, 5, 0, weights, table);
-        return;
+    match (r, d) {
+        (5, 2) => count_rows(rows, c, 5, 2, weights, table),
+        (5, 1) => count_rows(rows, c, 5, 1, weights, table),
+        (5, 0) => count_rows(rows, c, 5, 0, weights, table),
+        (4, 1) => count_rows(rows, c, 4, 1, weights, table),
+        (4, 0) => count_rows(rows, c, 4, 0, weights, table),
+        _ => count_rows(rows, c, 3, 0, weights, table),
     }
-    if r == 4 {
-        if d == 1 {
-            count_rows(rows, c, 4, 1, weights, table);
-            return;
-        }
-        count_rows(rows, c, 4, 0, weights, table);
-        return;
-    }
-    count_rows(rows, c, 3, 0, weights, table);
 }
 
 // Writes the rows that have such a set, whose sum comes more than `bound` times, to the start of `kept`, and answers how many they are.
@@ -69,21 +53,16 @@ fn keep_counted(
     ensures { KeptRows (is_kept weights.now table.now sets.bound d)
         (rows_at r sets.c rows.now) r result kept.new }
 {
-    let c = sets.c;
-    let bound = sets.bound;
-    let mut i: usize = 0;
-    let mut at: usize = 0;
     let mut m: usize = 0;
     let mut to: usize = 0;
-    while i < c {
+    for i in 0..sets.c {
+        let at = i * r;
         let end = at + r;
-        if most_of_row(&rows[at..end], weights, d, table) > bound {
+        if most_of_row(&rows[at..end], weights, d, table) > sets.bound {
             rows_writer::copy_bytes(&mut kept[to..], &rows[at..end]);
             to += r;
             m += 1;
         }
-        at = end;
-        i += 1;
     }
     m
 }
@@ -102,22 +81,14 @@ fn keep_all(
     ensures { KeptRows (is_kept weights.now table.now sets.bound d)
         (rows_at r sets.c rows.now) r result kept.new }
 {
-    if r == 5 {
-        if d == 2 {
-            return keep_counted(rows, sets, 5, 2, weights, table, kept);
-        }
-        if d == 1 {
-            return keep_counted(rows, sets, 5, 1, weights, table, kept);
-        }
-        return keep_counted(rows, sets, 5, 0, weights, table, kept);
+    match (r, d) {
+        (5, 2) => keep_counted(rows, sets, 5, 2, weights, table, kept),
+        (5, 1) => keep_counted(rows, sets, 5, 1, weights, table, kept),
+        (5, 0) => keep_counted(rows, sets, 5, 0, weights, table, kept),
+        (4, 1) => keep_counted(rows, sets, 4, 1, weights, table, kept),
+        (4, 0) => keep_counted(rows, sets, 4, 0, weights, table, kept),
+        _ => keep_counted(rows, sets, 3, 0, weights, table, kept),
     }
-    if r == 4 {
-        if d == 1 {
-            return keep_counted(rows, sets, 4, 1, weights, table, kept);
-        }
-        return keep_counted(rows, sets, 4, 0, weights, table, kept);
-    }
-    keep_counted(rows, sets, 3, 0, weights, table, kept)
 }
 
 // Writes some of the rows to the start of `kept`, and answers how many: no set stands together too often in all rows if none does in

@@ -1,5 +1,6 @@
 -- The curve from the answer of the placement's check, and what is left in the lent slice. Assumes nothing.
 use Prim.Native.Nat.{ℕ, ◌+◌, ◌-◌, ◌≤◌, ◌<◌}
+use Rattle.std.specs.Prelude.{Ok, Err}
 use native.Mathlib.Omega.{arith}
 use native.Mathlib.Nat.{le_of_eq}
 use mathlib.Core.Path.{◌≡◌, refl, sym, ◌∙◌, ap}
@@ -12,7 +13,6 @@ use Rattle.lists.proofs.UpTo.{length-map-up_to}
 use Rattle.lists.proofs.Stores.{sets-start}
 use Rattle.refusal.specs.declared.Refusal.{Refusal}
 use Rattle.refusal.specs.declared.Refusal.TheVariants.{ShortOutput}
-use Rattle.refusal.specs.declared.Writing.TheVariants.{Written, Refused}
 use Rattle.refusal.specs.Checked.{accepted, refused, WritingDone}
 use Rattle.layers.specs.Layers.{Located, head_of, heads_of}
 use Rattle.layers.specs.Answers.{no_head, five_heads}
@@ -24,7 +24,6 @@ use Rattle.placement.specs.Units.{units, figure_at}
 use Rattle.placement.specs.Answers.{units_by, placement_head, placement_checked}
 use Rattle.placement.specs.declared.PlacementHead.{PlacementHead}
 use Rattle.placement.specs.declared.PlacementCheck.{PlacementCheck}
-use Rattle.placement.specs.declared.PlacementAnswer.TheVariants.{Accepted, Refused as NotAccepted}
 use Rattle.placement.proofs.Accepted.{read-of-placement}
 use Rattle.placement.proofs.Answered.{check-refused, check-accepted}
 use Rattle.placement.proofs.TableRows.{units_by-is, units-within}
@@ -34,7 +33,7 @@ use Rattle.curve.specs.Asked.{CurveAsked, figures_from, curve_from}
 module _ (head : PlacementHead) (m : ℕ) (layers : List LayerHead) (out : List ℕ) where
   -- too short an output is refused, and is as it was
   pub curve-refused : length out < m - head.s
-      → WritingDone (curve_from head m layers (length out)) out out (Refused (ShortOutput (m - head.s)))
+      → WritingDone (curve_from head m layers (length out)) out out (Err (ShortOutput (m - head.s)))
   unfolding curve_from
   curve-refused short =
       rw (lt-leb (m - head.s) (length out) short) (record { answer = refl; output-after = refl })
@@ -42,13 +41,13 @@ module _ (head : PlacementHead) (m : ℕ) (layers : List LayerHead) (out : List 
   -- the figures stand at the start of any other, which is else as it was
   pub curve-written : {left : List ℕ} → m - head.s ≤ length out
       → left ≡ sets out 0 (figures_from (rule_of head.kind) head.s head.b layers (m - head.s))
-      → WritingDone (curve_from head m layers (length out)) out left (Written (m - head.s))
+      → WritingDone (curve_from head m layers (length out)) out left (Ok (m - head.s))
   unfolding curve_from
   curve-written enough is =
       let figures = figures_from (rule_of head.kind) head.s head.b layers (m - head.s) in
       let size = length-map-up_to (λ i. figure_of (rule_of head.kind) head.s (head.s + i) head.b (take head.s layers)) (m - head.s) in
       rw (le-leb (m - head.s) (length out) enough)
-      (record { answer = ap Written (sym size); output-after = is ∙ sets-start out figures (omega arith) })
+      (record { answer = ap Ok (sym size); output-after = is ∙ sets-start out figures (omega arith) })
 
 -- an accepted placement's numbers, and the curve from them
 module _ (bytes : List ℕ) (file : Located Placement) (e : read_placement bytes ≡ accepted file) where
@@ -98,7 +97,7 @@ asked-as e d f asked = rw (e, d, f) asked
 
 -- what the answer of the check says
 module _ (bytes : List ℕ) {check : PlacementCheck} (is : check ≡ placement_checked (read_placement bytes)) where
-  module _ {head : PlacementHead} (a : check.answer ≡ Accepted head) where
+  module _ {head : PlacementHead} (a : check.answer ≡ Ok head) where
     units-are : units_by head.n check.feeders.number ≡ units (check-accepted (read_placement bytes) is a).file.content
     units-are =
         let o = check-accepted (read_placement bytes) is a in
@@ -118,6 +117,6 @@ module _ (bytes : List ℕ) {check : PlacementCheck} (is : check ≡ placement_c
         let o = check-accepted (read_placement bytes) is a in
         same-curve bytes o.file o.is-accepted output ∙ sym (λ i. curve_from (o.head-is i) (units-are i) (o.layers-are i) output)
 
-  pub curve-of-refused : {why : Refusal} → check.answer ≡ NotAccepted why → (output : ℕ) → check_curve bytes output ≡ refused why
+  pub curve-of-refused : {why : Refusal} → check.answer ≡ Err why → (output : ℕ) → check_curve bytes output ≡ refused why
   unfolding check_curve check_placement
   curve-of-refused a output = rw (check-refused (read_placement bytes) is a)

@@ -8,8 +8,8 @@ ghost use Rattle.curve.specs.Curve.{check_curve};
 ghost use Rattle.curve.specs.Asked.{CurveAsked, curve_from};
 
 use layers::LayerHead;
-use placement::{PlacementAnswer, PlacementHead};
-use refusal::{Refusal, Writing};
+use placement::PlacementHead;
+use refusal::Refusal;
 
 // How many can fail in a placement of n nodes and so many feeders, 0 where it has none.
 fn units_of(n: usize, feeders: usize) -> usize
@@ -27,7 +27,7 @@ fn write_accepted(
     units: usize,
     layers: [LayerHead; 5],
     out: &mut [u16],
-) -> Writing
+) -> Result<usize, Refusal>
     requires { CurveAsked head units layers }
     ensures { WritingDone (curve_from head units layers (length out.old)) out.old out.new result }
 {
@@ -35,11 +35,11 @@ fn write_accepted(
     let b = head.b;
     let entries = units - s;
     if out.len() < entries {
-        return Writing::Refused(Refusal::ShortOutput(entries));
+        return Err(Refusal::ShortOutput(entries));
     }
     let rule = placement_figure::rule_of(head.kind);
     curve_figures::write_figures(rule, s, b, layers, entries, out);
-    Writing::Written(entries)
+    Ok(entries)
 }
 
 // Checks a placement and puts its figure for each number of failures from s to n-1, in kind 6 to g-1, at the start of `out`, lowest
@@ -47,18 +47,11 @@ fn write_accepted(
 // g - s.
 //
 // Each figure holds whichever nodes fail, in kind 6 whichever feeders, and none is higher than one for fewer failures: `c-curve` in `promises`.
-pub fn curve(bytes: &[u8], out: &mut [u16]) -> Writing
+pub fn curve(bytes: &[u8], out: &mut [u16]) -> Result<usize, Refusal>
     ensures { WritingDone (check_curve bytes.now (length out.old)) out.old out.new result }
 {
     let check = placement_code::check_placement(bytes);
-    let answer = check.answer;
-    let layers = check.layers;
-    let feeders = check.feeders;
-    match answer {
-        PlacementAnswer::Refused(e) => Writing::Refused(e),
-        PlacementAnswer::Accepted(head) => {
-            let units = units_of(head.n, feeders.number);
-            write_accepted(head, units, layers, out)
-        }
-    }
+    let head = check.answer?;
+    let units = units_of(head.n, check.feeders.number);
+    write_accepted(head, units, check.layers, out)
 }

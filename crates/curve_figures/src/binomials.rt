@@ -23,11 +23,9 @@ pub(crate) fn row_of(m: usize) -> [usize; 6]
     ensures { result ≡ binomial_row m }
 {
     let mut row = [1, 0, 0, 0, 0, 0];
-    let mut i: usize = 0;
-    while i < m {
+    for i in 0..m {
         let next = next_row(row, i);
         row = next;
-        i += 1;
     }
     row
 }

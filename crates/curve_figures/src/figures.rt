@@ -8,7 +8,6 @@ ghost use Rattle.curve.specs.Asked.{LayersAsked, figures_from};
 
 use crate::binomials::{next_row, row_of};
 use layers::LayerHead;
-use minmax::smaller;
 use placement::{Order, Rule};
 
 // The smaller of a layer's records and its floor. A layer without records loses nothing: there is no division.
@@ -19,7 +18,7 @@ fn loss_from(layer: LayerHead, above: usize, below: usize) -> usize
     if layer.size == 0 {
         return 0;
     }
-    smaller(layer.size, layer.bound * above / below)
+    layer.size.min(layer.bound * above / below)
 }
 
 // The figure by the one floor for k failures, with C(k,0) to C(k,5) in `above` and C(s,0) to C(s,5) in `below`.
@@ -36,10 +35,8 @@ fn figure_from(
     ensures { result ≡ figure_of OneFloor s k b (take s layers) }
 {
     let mut lost: usize = 0;
-    let mut x: usize = 0;
-    while x < s {
+    for x in 0..s {
         lost += loss_from(layers[x], above[x + 1], below[x + 1]);
-        x += 1;
     }
     b - lost
 }
@@ -76,12 +73,10 @@ pub fn write_figures(
 {
     let below = row_of(s);
     let mut above = below;
-    let mut i: usize = 0;
-    while i < entries {
+    for i in 0..entries {
         let k = s + i;
         out[i] = figure_at(rule, Order { s, k, b }, layers, above, below) as u16;
         let next = next_row(above, k);
         above = next;
-        i += 1;
     }
 }

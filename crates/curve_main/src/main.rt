@@ -7,14 +7,13 @@ ghost use Rattle.report.specs.Replies.{Replied};
 ghost use Rattle.call_replies.specs.Curve.{curve_reply, curve_needed};
 
 use call_replies::CURVE_NEEDED;
-use report::Reply;
 
 // Puts what is written for the arguments and the input at the start of `out`, and answers its length: such a slice is never refused.
 fn reply(arguments: &[u8], input: &[u8], out: &mut [u8]) -> usize
     requires { curve_needed ≤ length out.old }
     ensures { Replied (curve_reply arguments.now input.now) result out.old out.new }
 {
-    let Reply::Written(length) = reply_curve::curve_reply(arguments, input, out) else {
+    let Ok(length) = reply_curve::curve_reply(arguments, input, out) else {
         return 0;
     };
     length
@@ -28,13 +27,5 @@ fn answer(rt: &(impl Print + Eprint), arguments: &[u8], input: &[u8]) {
 }
 
 fn main(rt: HostRuntime) {
-    let mut words = [0u8; 272];
-    let size = command::arguments(&rt, &mut words);
-    let mut buffer = [0u8; 32768];
-    let taken = console::read_input(&rt, &mut rt.stdin(), &mut buffer);
-    if taken.failure.is_some() {
-        return;
-    }
-    let count = taken.count;
-    answer(&rt, &words[0..size], &buffer[0..count]);
+    command::run(&rt, |arguments, input| answer(&rt, arguments, input));
 }

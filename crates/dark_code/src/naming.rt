@@ -7,7 +7,7 @@ ghost use Rattle.layers.specs.Layers.{first_naming};
 ghost use Rattle.layers.specs.Answers.{dark_list, DarkFits};
 
 use layers::Dark;
-use packing::{Record, RowFound};
+use packing::Record;
 
 // Which of the numbers that a byte can have are among the first `count` nodes.
 fn mark_nodes(count: usize, nodes: [usize; 255]) -> [bool; 256]
@@ -16,11 +16,9 @@ fn mark_nodes(count: usize, nodes: [usize; 255]) -> [bool; 256]
     ensures { (v : ℕ) → get_or result v false ≡ member v (take count nodes) }
 {
     let mut marks = [false; 256];
-    let mut i: usize = 0;
-    while i < count {
+    for i in 0..count {
         let v = nodes[i];
         marks[v] = true;
-        i += 1;
     }
     marks
 }
@@ -30,67 +28,57 @@ fn names_marked(row: &[u8], marks: &[bool]) -> bool
     requires { length marks.now ≡ 256 }
     ensures { result ≡ any (λ v. get_or marks.now v false) row.now }
 {
-    let mut place: usize = 0;
-    let mut left = row.len();
-    while left > 0 {
-        let v = row[place] as usize;
+    for place in 0..row.len() {
+        let v = usize::from(row[place]);
         if marks[v] {
             return true;
         }
-        place += 1;
-        left -= 1;
     }
     false
 }
 
 // The first of the c rows of r bytes with a marked node.
-fn marked_row(rows: &[u8], c: usize, r: usize, marks: &[bool]) -> RowFound
+fn marked_row(rows: &[u8], c: usize, r: usize, marks: &[bool]) -> Option<Record>
     requires r_in_bounds { c * r ≤ length rows.now }
     requires marks_len { length marks.now ≡ 256 }
     ensures { result
         ≡ row_found (first_where (any (λ v. get_or marks.now v false)) (rows_at r c rows.now)) }
 {
-    let mut j: usize = 0;
     let mut at: usize = 0;
-    while j < c {
+    for j in 0..c {
         let end = at + r;
         if names_marked(&rows[at..end], marks) {
-            return RowFound::At(Record(j));
+            return Some(Record(j));
         }
         at = end;
-        j += 1;
     }
-    RowFound::Nothing
+    None
 }
 
 // The same. For a length that is written as a number the compiler lays out the whole row.
-fn first_marked(rows: &[u8], c: usize, r: usize, marks: &[bool]) -> RowFound
+fn first_marked(rows: &[u8], c: usize, r: usize, marks: &[bool]) -> Option<Record>
     requires r_in_bounds { c * r ≤ length rows.now }
     requires marks_len { length marks.now ≡ 256 }
     ensures { result
         ≡ row_found (first_where (any (λ v. get_or marks.now v false)) (rows_at r c rows.now)) }
 {
-    if r == 5 {
-        return marked_row(rows, c, 5, marks);
+    match r {
+        5 => marked_row(rows, c, 5, marks),
+        4 => marked_row(rows, c, 4, marks),
+        3 => marked_row(rows, c, 3, marks),
+        _ => marked_row(rows, c, r, marks),
     }
-    if r == 4 {
-        return marked_row(rows, c, 4, marks);
-    }
-    if r == 3 {
-        return marked_row(rows, c, 3, marks);
-    }
-    marked_row(rows, c, r, marks)
 }
 
 // The first of the c rows of r bytes that names a node out of service. Most files have none, and then no row is looked at.
-pub fn first_naming(rows: &[u8], c: usize, r: usize, dark: Dark) -> RowFound
+pub fn first_naming(rows: &[u8], c: usize, r: usize, dark: Dark) -> Option<Record>
     requires r_in_bounds { c * r ≤ length rows.now }
     requires dark_fits { DarkFits dark }
     ensures { result ≡ row_found (first_naming (dark_list dark) (rows_at r c rows.now)) }
 {
     let count = dark.count;
     if count == 0 {
-        return RowFound::Nothing;
+        return None;
     }
     let nodes = dark.nodes;
     let marks = mark_nodes(count, nodes);

@@ -1,9 +1,9 @@
--- The bytes of a draft, and the line of a place. Assumes nothing.
-use Prim.Native.Nat.{ℕ, ◌+◌, ◌-◌, ◌/◌, ◌≤◌}
+-- The bytes of a draft. Assumes nothing.
+use Prim.Native.Nat.{ℕ, ◌+◌, ◌-◌, ◌≤◌}
 use native.Mathlib.Omega.{arith}
 use mathlib.Core.Path.{◌≡◌, refl, sym, ◌∙◌, ap}
 use mathlib.Core.List.{List, ◌++◌}
-use lib.ListN.{length, take, drop, get_or, length-append, length-drop, get_or-eq_default}
+use lib.ListN.{length, take, drop, length-append, length-drop}
 use Rattle.lists.specs.Lists.{over_start}
 use Rattle.lists.proofs.Writing.{given_back, write-part}
 use Rattle.number.specs.Numbers.{forms_of}
@@ -23,11 +23,3 @@ module _ (head rows out₀ : List ℕ) (fits : length (forms_of head) + length r
       let first : out ≡ forms_of head ++ drop at out₀ = rw at-is out-is in
       let size : at + length rows ≡ length (forms_of head ++ rows) = rw (length-append (forms_of head) rows, at-is) refl in
       write-part (forms_of head) rows out₀ out last at (sym at-is) first is ∙ rw size refl
-
--- the line at an index: 0 past the end
-module _ (lines : List ℕ) {offset : ℕ} (place first r : ℕ) (is : offset ≡ place - first) where
-  pub line-none : length lines ≤ offset / r → 0 ≡ get_or lines ((place - first) / r) 0
-  line-none h = rw (← is) (sym (get_or-eq_default lines 0 h))
-
-  pub line-some : get_or lines (offset / r) 0 ≡ get_or lines ((place - first) / r) 0
-  line-some = rw is refl

@@ -22,27 +22,13 @@ pub fn write_draft(head: &[usize], rows: &[u8], out: &mut [u8]) -> usize
     at
 }
 
-// How far a is above b; 0 where it is below.
-fn above(a: usize, b: usize) -> usize
-    ensures { result ≡ a - b }
-{
-    if a < b {
-        return 0;
-    }
-    a - b
-}
-
 // The line of the row at a place of a file whose first row is at `first`; 0 where there is none.
 pub fn line_at(lines: &[usize], place: usize, first: usize, r: usize) -> usize
     requires { 0 < r }
     ensures { result ≡ get_or lines.now ((place - first) / r) 0 }
 {
-    let offset = above(place, first);
-    let index = offset / r;
-    if lines.len() <= index {
-        return 0;
-    }
-    lines[index]
+    let offset = place.saturating_sub(first);
+    lines.get(offset / r).copied().unwrap_or(0)
 }
 
 // Puts the line of a fault at the start of `out`, and answers its length.

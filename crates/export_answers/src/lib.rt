@@ -7,25 +7,14 @@ ghost use Rattle.refusal.specs.Refusals.{result as result_of, refusal_outcome};
 ghost use Rattle.refusal.specs.Checked.{writing_outcome};
 ghost use Rattle.exports.specs.Exports.{Put};
 
-use refusal::{Refusal, Writing};
+use refusal::Refusal;
 
 // Puts the numbers at the start of `answer`.
 pub fn put(answer: &mut [usize], numbers: &[usize])
     requires { length numbers.now ≤ length answer.old }
     ensures { answer.new ≡ over_start numbers.now answer.old }
 {
-    let mut place: usize = 0;
-    while place < numbers.len() {
-        answer[place] = numbers[place];
-        place += 1;
-    }
-}
-
-// A byte as a number.
-fn wide(byte: u8) -> usize
-    ensures { result ≡ byte }
-{
-    byte as usize
+    answer[..numbers.len()].copy_from_slice(numbers);
 }
 
 // Puts bytes at the start of `answer`, as a number each.
@@ -33,10 +22,8 @@ pub fn put_bytes(answer: &mut [usize], bytes: &[u8])
     requires { length bytes.now ≤ length answer.old }
     ensures { answer.new ≡ over_start bytes.now answer.old }
 {
-    let mut place: usize = 0;
-    while place < bytes.len() {
-        answer[place] = wide(bytes[place]);
-        place += 1;
+    for (place, byte) in bytes.iter().enumerate() {
+        answer[place] = usize::from(*byte);
     }
 }
 
@@ -81,12 +68,12 @@ pub fn value(v: usize, answer: &mut [usize]) -> usize
 }
 
 // Puts what a call that only writes answers: how many bytes or entries, or the refusal.
-pub fn writing(wrote: Writing, answer: &mut [usize]) -> usize
+pub fn writing(wrote: Result<usize, Refusal>, answer: &mut [usize]) -> usize
     requires { 2 ≤ length answer.old }
     ensures { Put (writing_outcome wrote) answer.old answer.new result }
 {
     match wrote {
-        Writing::Written(n) => value(n, answer),
-        Writing::Refused(e) => refused(e, answer),
+        Ok(n) => value(n, answer),
+        Err(e) => refused(e, answer),
     }
 }

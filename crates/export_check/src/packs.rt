@@ -6,7 +6,7 @@ ghost use Rattle.pack.specs.Answers.{pack_outcome};
 ghost use Rattle.exports.specs.Exports.{Put};
 
 use layers::LayerHead;
-use pack::{PackAnswer, PackCheck, PackHead};
+use pack::{PackCheck, PackHead};
 
 // The numbers before the list: 0, n, r, the first block's place, mu and m of five layers, and how many nodes the list has.
 fn numbers_of(head: PackHead, l: [LayerHead; 5], count: usize) -> [usize; 15]
@@ -51,7 +51,7 @@ pub(crate) fn tell_pack(check: PackCheck, answer: &mut [usize]) -> usize
     let count = dark.count;
     let nodes = dark.nodes;
     match says {
-        PackAnswer::Accepted(head) => accepted(head, l, count, nodes, answer),
-        PackAnswer::Refused(e) => export_answers::refused(e, answer),
+        Ok(head) => accepted(head, l, count, nodes, answer),
+        Err(e) => export_answers::refused(e, answer),
     }
 }

@@ -7,7 +7,7 @@ ghost use Rattle.exports.specs.Exports.{Put};
 ghost use Rattle.export_check.specs.Fits.{CheckFits};
 
 use layers::LayerHead;
-use placement::{FeederTable, PlacementAnswer, PlacementCheck, PlacementHead};
+use placement::{FeederTable, PlacementCheck, PlacementHead};
 
 // The numbers before the lists: 0, the eight of the head, lambda and c of five layers, and how many nodes are out of service.
 fn numbers_of(head: PlacementHead, l: [LayerHead; 5], count: usize) -> [usize; 20]
@@ -97,7 +97,7 @@ pub(crate) fn tell_placement(check: PlacementCheck, answer: &mut [usize]) -> usi
     let nodes = dark.nodes;
     let table = check.feeders;
     match says {
-        PlacementAnswer::Accepted(head) => accepted(head, l, count, nodes, table, answer),
-        PlacementAnswer::Refused(e) => export_answers::refused(e, answer),
+        Ok(head) => accepted(head, l, count, nodes, table, answer),
+        Err(e) => export_answers::refused(e, answer),
     }
 }

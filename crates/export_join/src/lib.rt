@@ -1,25 +1,11 @@
 // Joining packs, for C and Rust: a slice is a pointer and a length, the answer's numbers are put into the last one.
 #![tactic(auto)]
 
-ghost use Rattle.std.specs.Prelude.{◌≤◌, [], ◌∷◌, length};
+ghost use Rattle.std.specs.Prelude.{[], ◌∷◌, length};
 ghost use Rattle.join.specs.Join.{join as join_of};
-ghost use Rattle.join.specs.Answers.{join_outcome};
-ghost use Rattle.exports.specs.Exports.{Put};
 ghost use Rattle.export_join.specs.Exported.{JoinExported};
 
 use exports::BAD_LENGTH;
-use join::Joined;
-
-// Puts the joined pack's length, or the refusal.
-fn tell_joined(joined: Joined, answer: &mut [usize]) -> usize
-    requires { 2 ≤ length answer.old }
-    ensures { Put (join_outcome joined) answer.old answer.new result }
-{
-    match joined {
-        Joined::Written(n) => export_answers::value(n, answer),
-        Joined::Refused(e) => export_answers::refused(e, answer),
-    }
-}
 
 // Joins one pack: `join_code::join_one`. The answer has 2 numbers: 0 and the joined pack's length.
 pub fn musseltwig_join_one(first: &[u8], out: &mut [u8], answer: &mut [usize]) -> usize
@@ -30,7 +16,7 @@ pub fn musseltwig_join_one(first: &[u8], out: &mut [u8], answer: &mut [usize]) -
         return BAD_LENGTH;
     }
     let joined = join_code::join_one(first, out);
-    tell_joined(joined, answer)
+    export_answers::writing(joined, answer)
 }
 
 // Joins two packs: `join_code::join_two`. The answer is that of `musseltwig_join_one`.
@@ -47,7 +33,7 @@ pub fn musseltwig_join_two(
         return BAD_LENGTH;
     }
     let joined = join_code::join_two(first, second, out);
-    tell_joined(joined, answer)
+    export_answers::writing(joined, answer)
 }
 
 // Joins three packs: `join_code::join_three`. The answer is that of `musseltwig_join_one`.
@@ -66,5 +52,5 @@ pub fn musseltwig_join_three(
         return BAD_LENGTH;
     }
     let joined = join_code::join_three(first, second, third, out);
-    tell_joined(joined, answer)
+    export_answers::writing(joined, answer)
 }

@@ -4,12 +4,13 @@
 ghost use Rattle.std.specs.Prelude.{◌≤◌, [], ◌∷◌, length};
 ghost use Rattle.refusal.specs.Refusals.{result as result_of};
 ghost use Rattle.number.specs.Numbers.{read_number, read_within, write_number};
-ghost use Rattle.number.specs.Answers.{number_read, read_outcome, written_outcome};
+ghost use Rattle.number.specs.Answers.{number_read, read_outcome};
 ghost use Rattle.exports.specs.Exports.{Put, Told, fits};
 ghost use Rattle.export_number.specs.Exported.{NumberExported};
 
 use exports::BAD_LENGTH;
-use number::{NumberRead, NumberWritten};
+use number::Reading;
+use refusal::Refusal;
 
 // Puts a number's value and the next place; answers 0.
 fn reading(value: usize, next: usize, answer: &mut [usize]) -> usize
@@ -21,13 +22,13 @@ fn reading(value: usize, next: usize, answer: &mut [usize]) -> usize
 }
 
 // Puts what reading a number answers.
-fn tell_read(read: NumberRead, answer: &mut [usize]) -> usize
+fn tell_read(read: Result<Reading, Refusal>, answer: &mut [usize]) -> usize
     requires { 3 ≤ length answer.old }
     ensures { Put (read_outcome read) answer.old answer.new result }
 {
     match read {
-        NumberRead::Value(number) => reading(number.value, number.next, answer),
-        NumberRead::Refused(e) => export_answers::refused(e, answer),
+        Ok(number) => reading(number.value, number.next, answer),
+        Err(e) => export_answers::refused(e, answer),
     }
 }
 
@@ -61,17 +62,6 @@ pub fn musseltwig_read_within(
     tell_read(read, answer)
 }
 
-// Puts how many bytes were written, or the refusal.
-fn tell_written(wrote: NumberWritten, answer: &mut [usize]) -> usize
-    requires { 2 ≤ length answer.old }
-    ensures { Put (written_outcome wrote) answer.old answer.new result }
-{
-    match wrote {
-        NumberWritten::Written(n) => export_answers::value(n, answer),
-        NumberWritten::Refused(e) => export_answers::refused(e, answer),
-    }
-}
-
 // Writes a number in its shortest form: `number_writer::write_number`. The answer has 2 numbers: 0 and the bytes written.
 pub fn musseltwig_write_number(out: &mut [u8], value: usize, answer: &mut [usize]) -> usize
     ensures { NumberExported (write_number (length out.old) value)
@@ -81,5 +71,5 @@ pub fn musseltwig_write_number(out: &mut [u8], value: usize, answer: &mut [usize
         return BAD_LENGTH;
     }
     let wrote = number_writer::write_number(out, value);
-    tell_written(wrote, answer)
+    export_answers::writing(wrote, answer)
 }

@@ -1,17 +1,18 @@
 -- The exported calls on a placement by the calls' own contracts. Assumes nothing.
 use Prim.Native.Nat.{ℕ, ◌≤◌, ◌<◌}
+use Rattle.std.specs.Prelude.{Result}
 use mathlib.Core.Path.{refl}
 use mathlib.Core.List.{List}
 use lib.ListN.{length}
 use Rattle.refusal.specs.Checked.{Checked}
 use Rattle.worst.specs.Worst.{Worst}
 use Rattle.worst.specs.Answers.{worst_answer, worst_outcome, WorstDone}
-use Rattle.worst.specs.declared.WorstCase.{WorstCase}
 use Rattle.exports.specs.Exports.{bad_length, Put}
 use Rattle.exports.proofs.Told.{fits-long, fits-short, put-told, short-told}
 use Rattle.export_placement.specs.Exported.{WorstExported}
+use Rattle.refusal.specs.declared.Refusal.{Refusal}
 
-pub worst-told : (gave : Checked Worst) (out out-left answer answer-left : List ℕ) (given : ℕ) (w : WorstCase) → 2 ≤ length answer
+pub worst-told : (gave : Checked Worst) (out out-left answer answer-left : List ℕ) (given : ℕ) (w : Result ℕ Refusal) → 2 ≤ length answer
     → WorstDone gave out out-left w → Put (worst_outcome w) answer answer-left given
     → WorstExported gave out out-left answer answer-left given
 worst-told gave out out-left answer answer-left given w long done put =

@@ -1,19 +1,16 @@
 // The calls on a placement, for C and Rust: a slice is a pointer and a length, the answer's numbers are put into the last one.
 #![tactic(auto)]
 
-ghost use Rattle.std.specs.Prelude.{length, ◌≤◌};
-ghost use Rattle.exports.specs.Exports.{Put, Told, fits, WritingExported};
+ghost use Rattle.std.specs.Prelude.{length};
+ghost use Rattle.exports.specs.Exports.{Told, fits, WritingExported};
 ghost use Rattle.curve.specs.Curve.{check_curve};
 ghost use Rattle.page.specs.Page.{check_page};
 ghost use Rattle.worst.specs.Worst.{check_worst};
-ghost use Rattle.worst.specs.Answers.{worst_outcome};
 ghost use Rattle.rounds.specs.Rounds.{check_rounds};
 ghost use Rattle.rounds.specs.Answers.{rounds_answer, rounds_outcome};
 ghost use Rattle.export_placement.specs.Exported.{WorstExported};
 
 use exports::BAD_LENGTH;
-use rounds::RoundsAnswer;
-use worst::WorstCase;
 
 // The placement's figure for every number of failures: `curve_code::curve`. The answer has 2 numbers: 0 and the entries written.
 pub fn musseltwig_curve(placement: &[u8], out: &mut [u16], answer: &mut [usize]) -> usize
@@ -39,17 +36,6 @@ pub fn musseltwig_page(placement: &[u8], out: &mut [u8], answer: &mut [usize]) -
     export_answers::writing(wrote, answer)
 }
 
-// Puts the fewest usable records, or the refusal.
-fn tell_fewest(fewest: WorstCase, answer: &mut [usize]) -> usize
-    requires { 2 ≤ length answer.old }
-    ensures { Put (worst_outcome fewest) answer.old answer.new result }
-{
-    match fewest {
-        WorstCase::Fewest(n) => export_answers::value(n, answer),
-        WorstCase::Refused(e) => export_answers::refused(e, answer),
-    }
-}
-
 // The true worst case: `worst_code::worst_case`. The answer has 2 numbers: 0 and the fewest usable records.
 pub fn musseltwig_worst_case(placement: &[u8], out: &mut [u8], answer: &mut [usize]) -> usize
     ensures { WorstExported (check_worst placement.now (length out.old))
@@ -59,18 +45,7 @@ pub fn musseltwig_worst_case(placement: &[u8], out: &mut [u8], answer: &mut [usi
         return BAD_LENGTH;
     }
     let fewest = worst_code::worst_case(placement, out);
-    tell_fewest(fewest, answer)
-}
-
-// Puts the usable records, or the refusal.
-fn tell_usable(usable: RoundsAnswer, answer: &mut [usize]) -> usize
-    requires { 2 ≤ length answer.old }
-    ensures { Put (rounds_outcome usable) answer.old answer.new result }
-{
-    match usable {
-        RoundsAnswer::Usable(n) => export_answers::value(n, answer),
-        RoundsAnswer::Refused(e) => export_answers::refused(e, answer),
-    }
+    export_answers::writing(fewest, answer)
 }
 
 // Cuts and repairs in turn, q rounds: `rounds_code::rounds`. The answer has 2 numbers: 0 and the usable records.
@@ -82,5 +57,5 @@ pub fn musseltwig_rounds(placement: &[u8], q: usize, answer: &mut [usize]) -> us
         return BAD_LENGTH;
     }
     let usable = rounds_code::rounds(placement, q);
-    tell_usable(usable, answer)
+    export_answers::writing(usable, answer)
 }

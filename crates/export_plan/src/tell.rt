@@ -5,8 +5,8 @@ ghost use Rattle.planner.specs.Answers.{plan_outcome};
 ghost use Rattle.commit.specs.Asking.{ask_outcome};
 ghost use Rattle.exports.specs.Exports.{Put};
 
-use commit::{AskAnswer, AskResult};
-use planner::{PlanAnswer, PlanResult};
+use commit::AskResult;
+use planner::{PlanResult, PlannedFile};
 
 // Puts a plan's length, its figure and its counts; answers 0.
 fn planned(size: usize, figure: usize, counts: [usize; 5], answer: &mut [usize]) -> usize
@@ -25,8 +25,8 @@ pub fn tell_plan(plan: PlanResult, answer: &mut [usize]) -> usize
     let says = plan.answer;
     let counts = plan.counts;
     match says {
-        PlanAnswer::Planned { length, figure } => planned(length, figure, counts, answer),
-        PlanAnswer::Refused(e) => export_answers::refused(e, answer),
+        Ok(PlannedFile { length, figure }) => planned(length, figure, counts, answer),
+        Err(e) => export_answers::refused(e, answer),
     }
 }
 
@@ -48,7 +48,7 @@ pub(crate) fn tell_offer(offer: AskResult, answer: &mut [usize]) -> usize
     let counts = offer.counts;
     let copies = offer.copies;
     match says {
-        AskAnswer::Offered(figure) => offered(figure, counts, copies, answer),
-        AskAnswer::Refused(e) => export_answers::refused(e, answer),
+        Ok(figure) => offered(figure, counts, copies, answer),
+        Err(e) => export_answers::refused(e, answer),
     }
 }

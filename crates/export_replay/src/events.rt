@@ -29,12 +29,9 @@ fn run(start: Progress, times: &[u32], nodes: &[u8], downs: &[u8], board: &mut [
     ensures { result.answer ≡ rest start board.old 0 (events_of times.now nodes.now downs.now) }
 {
     let mut progress = start;
-    let mut i: usize = 0;
-    while i < times.len() {
+    for i in 0..times.len() {
         let event = event_at(times, nodes, downs, i);
-        let next = replay_step::step(progress, i, event, board);
-        progress = next;
-        i += 1;
+        progress = replay_step::step(progress, i, event, board);
     }
     progress
 }

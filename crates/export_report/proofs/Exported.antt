@@ -1,17 +1,18 @@
 -- The exported call that writes the certificate line by the call's own contract. Assumes nothing.
 use Prim.Native.Nat.{ℕ, ◌≤◌, ◌<◌}
+use Rattle.std.specs.Prelude.{Result}
 use mathlib.Core.Path.{refl}
 use mathlib.Core.List.{List}
 use lib.ListN.{length}
 use Rattle.refusal.specs.Checked.{Checked}
 use Rattle.report.specs.Answers.{reply, reply_outcome, ReplyDone}
-use Rattle.report.specs.declared.Reply.{Reply}
 use Rattle.exports.specs.Exports.{bad_length, Put}
 use Rattle.exports.proofs.Told.{fits-long, fits-short, put-told, short-told}
 use Rattle.export_report.specs.Exported.{ReplyExported}
+use Rattle.refusal.specs.declared.Refusal.{Refusal}
 
 module _ (wrote : Checked (List ℕ)) (out answer : List ℕ) where
-  pub reply-told : (out-left answer-left : List ℕ) (given : ℕ) (w : Reply) → 2 ≤ length answer
+  pub reply-told : (out-left answer-left : List ℕ) (given : ℕ) (w : Result ℕ Refusal) → 2 ≤ length answer
       → ReplyDone wrote out out-left w → Put (reply_outcome w) answer answer-left given
       → ReplyExported wrote out out-left answer answer-left given
   reply-told out-left answer-left given w long done put =

@@ -1,33 +1,33 @@
 // The row walk by a place, for C and Rust: a slice is a pointer and a length, the answer's numbers are put into the last one.
 #![tactic(auto)]
 
-ghost use Rattle.std.specs.Prelude.{◌≡◌, ◌≤◌, length};
+ghost use Rattle.std.specs.Prelude.{◌≡◌, ◌≤◌, length, Ok};
 ghost use Rattle.refusal.specs.Refusals.{result as result_of};
-ghost use Rattle.walk.specs.declared.WalkOpened.TheVariants.{Opened};
 ghost use Rattle.walk.specs.RowWalk.{open_walk, walk_opened, walk_outcome, row_start};
 ghost use Rattle.exports.specs.Exports.{Put, Told, fits};
 ghost use Rattle.export_walk.specs.Steps.{step_values};
 
 use exports::BAD_LENGTH;
-use walk::{Cursor, WalkOpened};
+use refusal::Refusal;
+use walk::Cursor;
 
 // Puts where a walk stands; answers 0.
 fn opened_at(at: usize, r: usize, left: usize, answer: &mut [usize]) -> usize
     requires { 4 ≤ length answer.old }
-    ensures { Put (walk_outcome (Opened (record { at = at; r = r; left = left }))) answer.old answer.new result }
+    ensures { Put (walk_outcome (Ok (record { at = at; r = r; left = left }))) answer.old answer.new result }
 {
     export_answers::put(answer, &[0, at, r, left]);
     0
 }
 
 // Puts what opening a walk answers.
-fn tell_opened(opened: WalkOpened, answer: &mut [usize]) -> usize
+fn tell_opened(opened: Result<Cursor, Refusal>, answer: &mut [usize]) -> usize
     requires { 4 ≤ length answer.old }
     ensures { Put (walk_outcome opened) answer.old answer.new result }
 {
     match opened {
-        WalkOpened::Opened(place) => opened_at(place.at, place.r, place.left, answer),
-        WalkOpened::Refused(e) => export_answers::refused(e, answer),
+        Ok(place) => opened_at(place.at, place.r, place.left, answer),
+        Err(e) => export_answers::refused(e, answer),
     }
 }
 

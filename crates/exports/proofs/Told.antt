@@ -1,5 +1,6 @@
 -- Slices with the lengths that a call states, and others. Assumes nothing.
 use Prim.Native.Nat.{ℕ, ◌≤◌, ◌<◌}
+use Rattle.std.specs.Prelude.{Result}
 use mathlib.Core.Path.{◌≡◌, refl}
 use mathlib.Core.Bool.{Bool, true, false}
 use mathlib.Core.List.{List}
@@ -7,8 +8,8 @@ use lib.ListN.{length}
 use borrow.Author.Tests.{le-leb, lt-leb}
 use Rattle.refusal.specs.Refusals.{Outcome}
 use Rattle.refusal.specs.Checked.{Checked, writing, writing_outcome, WritingDone}
-use Rattle.refusal.specs.declared.Writing.{Writing}
 use Rattle.exports.specs.Exports.{fits, bad_length, Put, Told, WritingExported}
+use Rattle.refusal.specs.declared.Refusal.{Refusal}
 
 pub fits-long : (needed : ℕ) (answer : List ℕ) → needed ≤ length answer → fits needed answer ≡ true
 fits-long needed answer long = le-leb needed (length answer) long
@@ -38,7 +39,7 @@ pub short-told : (said : Outcome) (needed : ℕ) (answer : List ℕ) → length 
 short-told said needed answer short = unstated-told said (fits needed answer) answer (fits-short needed answer short)
 
 -- a call that only writes, by its own contract and what was put
-pub writing-told : (wrote : Checked (List ℕ)) (out out-left answer answer-left : List ℕ) (given : ℕ) (w : Writing) → 2 ≤ length answer
+pub writing-told : (wrote : Checked (List ℕ)) (out out-left answer answer-left : List ℕ) (given : ℕ) (w : Result ℕ Refusal) → 2 ≤ length answer
     → WritingDone wrote out out-left w → Put (writing_outcome w) answer answer-left given
     → WritingExported wrote out out-left answer answer-left given
 writing-told wrote out out-left answer answer-left given w long done put =

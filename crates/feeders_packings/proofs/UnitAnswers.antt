@@ -1,5 +1,6 @@
 -- The answers of refusals 21 and 7 over rows of feeders in the code's buffer. Assumes nothing.
 use Prim.Native.Nat.{ℕ, ◌+◌, ◌*◌, ◌-◌, ◌≤◌, ◌<◌}
+use Rattle.std.specs.Prelude.{⊤, Option, Some, None, Result, Err}
 use native.Mathlib.Omega.{arith}
 use native.Mathlib.Nat.{mul-le-mul_right, le_of_lt}
 use mathlib.Core.Path.{◌≡◌, refl, sym, ◌∙◌, ap}
@@ -14,13 +15,10 @@ use Rattle.lists.proofs.Alls.{all-imp, all-flatten, length-flatten}
 use Rattle.lists.proofs.Writing.{given_back, take-drop-rest, append-rest}
 use Rattle.lists.proofs.Tests.{and_left}
 use Rattle.refusal.specs.declared.Refusal.TheVariants.{SharedFeeder}
-use Rattle.refusal.specs.declared.Verdict.{Verdict}
-use Rattle.refusal.specs.declared.Verdict.TheVariants.{Refused}
+use Rattle.refusal.specs.declared.Refusal.{Refusal}
 use Rattle.refusal.specs.Checked.{verdict}
 use Rattle.packing.specs.Rows.{ascending, is_in_order, Row, rows_at, first_bad}
 use Rattle.packing.specs.Answers.{row_found}
-use Rattle.packing.specs.declared.RowFound.{RowFound}
-use Rattle.packing.specs.declared.RowFound.TheVariants.{At, Nothing}
 use Rattle.packing.specs.declared.Record.{Record}
 use Rattle.packing.proofs.Test.{good-iff-in-order}
 use Rattle.packing.proofs.Found.{row_found-at, row_found-nothing}
@@ -42,11 +40,11 @@ use Rattle.feeders_packings.proofs.TableFeeders.{same-feeders}
 
 -- What the buffer's rows give.
 module _ (number r at rows : ℕ) (heads : List LayerHead) (fed part : List ℕ) (is : part ≡ drop at fed) (count : rows ≡ sizes heads)
-    (found : RowFound) (are : found ≡ row_found (first_bad number (rows_at r rows part))) where
+    (found : Option Record) (are : found ≡ row_found (first_bad number (rows_at r rows part))) where
   looked : found ≡ row_found (first_bad number (all_rows (layers_at r heads (drop at fed))))
   looked = are ∙ rw (is, count, all_rows-layers_at r heads (drop at fed)) refl
 
-  module _ {row : Record} (e : found ≡ At row) where
+  module _ {row : Record} (e : found ≡ Some row) where
     pub shared-place : row.0 * r ≤ rows * r
     unfolding first_bad
     shared-place =
@@ -54,11 +52,11 @@ module _ (number r at rows : ℕ) (heads : List LayerHead) (fed part : List ℕ)
         let within = (some-first_where (λ row. not (is_in_order number row)) (rows_at r rows part) [] row.0 there).within in
         mul-le-mul_right r (le_of_lt (rw (length-rows_at r rows part) at within))
 
-    pub shared-refused : Refused (SharedFeeder (at + row.0 * r)) ≡ verdict (units_checked number r at (layers_at r heads (drop at fed)))
+    pub shared-refused : Err (SharedFeeder (at + row.0 * r)) ≡ verdict (units_checked number r at (layers_at r heads (drop at fed)))
     unfolding units_checked
     shared-refused = rw (row_found-at (first_bad number (all_rows (layers_at r heads (drop at fed)))) (sym e ∙ looked)) refl
 
-  module _ (e : found ≡ Nothing) where
+  module _ (e : found ≡ None) where
     none-bad : first_bad number (all_rows (layers_at r heads (drop at fed))) ≡ none
     none-bad = row_found-nothing (first_bad number (all_rows (layers_at r heads (drop at fed)))) (sym e ∙ looked)
 
@@ -67,7 +65,7 @@ module _ (number r at rows : ℕ) (heads : List LayerHead) (fed part : List ℕ)
         all-imp (λ row. T (is_in_order number row)) (λ row. T (ascending 0 row)) (λ row t. and_left (ascending 0 row) _ t)
         (all_rows (layers_at r heads (drop at fed))) ((good-iff-in-order number (all_rows (layers_at r heads (drop at fed)))).0 none-bad)
 
-    pub units-left : {answer : Verdict} → answer ≡ verdict (check_packings r at (layers_at r heads (drop at fed)))
+    pub units-left : {answer : Result ⊤ Refusal} → answer ≡ verdict (check_packings r at (layers_at r heads (drop at fed)))
         → answer ≡ verdict (units_checked number r at (layers_at r heads (drop at fed)))
     unfolding units_checked
     units-left a = a ∙ rw none-bad refl
@@ -111,7 +109,7 @@ module _ {r layers : ℕ} {heads : List LayerHead} {table : FeederTable} {s : Li
       unit-heads (some a.fits.feeders) (layers_at r (take layers heads) (drop at s)) ∙ heads_of-layers_at r (take layers heads) (drop at s) in
       rw (e, rows_written) (ap (λ h. layers_at r h (flatten (all_rows units) ++ t)) (sym same) ∙ layers_at-flatten r units t lengths)
 
-  pub feeders-checked : (fed t : List ℕ) {answer : Verdict} → drop at fed ≡ flatten (map (row_by_table table.each) (rows_at r rows (drop at s))) ++ t
+  pub feeders-checked : (fed t : List ℕ) {answer : Result ⊤ Refusal} → drop at fed ≡ flatten (map (row_by_table table.each) (rows_at r rows (drop at s))) ++ t
       → answer ≡ verdict (units_checked table.number r at (layers_at r (take layers heads) (drop at fed)))
       → answer ≡ verdict (feeders_checked r at (table_feeders table) (layers_at r (take layers heads) (drop at s)))
   unfolding units_checked feeders_checked check_apart

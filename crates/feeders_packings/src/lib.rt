@@ -11,7 +11,7 @@ ghost use Rattle.placement.specs.Asked.{FeedersAsked, FeedersPut, table_feeders,
 
 use layers::LayerHead;
 use placement::FeederTable;
-use refusal::Verdict;
+use refusal::Refusal;
 use units::check_units;
 
 // Puts the rows of feeders of the rows that start at `at` to the same place of the buffer.
@@ -32,7 +32,7 @@ pub fn check_feeders(
     table: FeederTable,
     layers: usize,
     heads: [LayerHead; 5],
-) -> Verdict
+) -> Result<(), Refusal>
     requires { FeedersAsked r layers heads table bytes.now at }
     ensures { result
         ≡ verdict (feeders_checked r at (table_feeders table) (layers_at r (take layers heads) (drop at bytes.now))) }

@@ -1,5 +1,6 @@
 -- Joining one, two or three packs, from what the code finds of each. Assumes nothing.
 use Prim.Native.Nat.{ℕ, zero, suc, ◌≤◌}
+use Rattle.std.specs.Prelude.{Result, Ok, Err}
 use native.Mathlib.Omega.{arith}
 use mathlib.Core.Path.{◌≡◌, refl, sym, ◌∙◌, ap, subst}
 use mathlib.Core.Bool.{true}
@@ -16,14 +17,10 @@ use Rattle.layers.specs.Layers.{Located}
 use Rattle.pack.specs.Pack.{Pack, read_pack, check_pack}
 use Rattle.pack.specs.Answers.{pack_checked}
 use Rattle.pack.specs.declared.PackHead.{PackHead}
-use Rattle.pack.specs.declared.PackAnswer.{PackAnswer}
-use Rattle.pack.specs.declared.PackAnswer.TheVariants.{Accepted, Refused}
 use Rattle.pack.specs.declared.PackCheck.{PackCheck}
 use Rattle.join.specs.Join.{joinable, check_packs, join_packs, join}
 use Rattle.join.specs.Answers.{JoinDone}
-use Rattle.join.specs.declared.Joined.TheVariants.{Refused as NotJoined}
 use Rattle.join.specs.Estate.{piece_pack, estate_packs, read_piece, refusal_of, PieceFits, EstateFits}
-use Rattle.join.specs.declared.Joined.{Joined}
 use Rattle.join.specs.declared.Estate.{Estate}
 use Rattle.join.proofs.Pieces.{join-none}
 use Rattle.join.proofs.Given.{was-refused, Found, was-accepted, piece_of, good, piece-pack, no_piece, absent-piece, read_fits, piece_is, estate_of}
@@ -140,7 +137,7 @@ module _ (f s t : List ℕ) (output : ℕ) {e : Refusal} where
   refused-third (suc (suc (suc zero))) some few a b r ra rb why = rw (read-checked f a ra, read-checked s b rb, read-refused t why)
   refused-third (suc (suc (suc (suc n)))) some few a b r ra rb why = absurd (omega arith)
 
-pub done_refused : {m : Checked Pack} {e : Refusal} (out : List ℕ) → m ≡ refused e → JoinDone m out out (NotJoined e)
+pub done_refused : {m : Checked Pack} {e : Refusal} (out : List ℕ) → m ≡ refused e → JoinDone m out out (Err e)
 done_refused out is = rw is (record { given_is = refl; output-after = refl })
 
 -- What the code finds, pack by pack.
@@ -148,35 +145,35 @@ module _ (f s t out : List ℕ) (packs : ℕ) (some : 1 ≤ packs) (few : packs 
   abbrev whole : Checked Pack
   whole = join (take packs (f ∷ s ∷ t ∷ [])) (length out)
 
-  given-refused : {e : Refusal} {given : Joined} {answer : PackAnswer} → whole ≡ refused e → answer ≡ Refused e → given ≡ NotJoined (refusal_of answer)
+  given-refused : {e : Refusal} {given : Result ℕ Refusal} {answer : Result PackHead Refusal} → whole ≡ refused e → answer ≡ Err e → given ≡ Err (refusal_of answer)
       → JoinDone whole out out given
   given-refused is why given_is = rw (given_is, why) (done_refused out is)
 
-  pub first_found : {check : PackCheck} {e : Refusal} {given : Joined} → check ≡ pack_checked (read_piece true 0 f) → check.answer ≡ Refused e
-      → given ≡ NotJoined (refusal_of check.answer) → JoinDone whole out out given
+  pub first_found : {check : PackCheck} {e : Refusal} {given : Result ℕ Refusal} → check ≡ pack_checked (read_piece true 0 f) → check.answer ≡ Err e
+      → given ≡ Err (refusal_of check.answer) → JoinDone whole out out given
   first_found is why given_is = given-refused (refused-first f s t (length out) packs some (was-refused (read_pack f) is why)) why given_is
 
-  module _ {ca cb : PackCheck} {ha : PackHead} (is-a : ca ≡ pack_checked (read_piece true 0 f)) (ok-a : ca.answer ≡ Accepted ha)
+  module _ {ca cb : PackCheck} {ha : PackHead} (is-a : ca ≡ pack_checked (read_piece true 0 f)) (ok-a : ca.answer ≡ Ok ha)
       (is_b : cb ≡ pack_checked (read_piece (ltb 1 packs) ha.r s)) where
     one : Found (read_pack f) ca ha
     one = was-accepted (read_pack f) is-a ok-a
 
-    pub second-found : {e : Refusal} {given : Joined} → cb.answer ≡ Refused e → given ≡ NotJoined (refusal_of cb.answer) → JoinDone whole out out given
+    pub second-found : {e : Refusal} {given : Result ℕ Refusal} → cb.answer ≡ Err e → given ≡ Err (refusal_of cb.answer) → JoinDone whole out out given
     second-found why given_is =
         given-refused (refused-second f s t (length out) packs some few one.file ha.r one.read (was-refused (read_piece (ltb 1 packs) ha.r s) is_b why)) why given_is
 
-    module _ {cd : PackCheck} {hb : PackHead} (ok-b : cb.answer ≡ Accepted hb) (is_c : cd ≡ pack_checked (read_piece (ltb 2 packs) ha.r t)) where
+    module _ {cd : PackCheck} {hb : PackHead} (ok-b : cb.answer ≡ Ok hb) (is_c : cd ≡ pack_checked (read_piece (ltb 2 packs) ha.r t)) where
       two : Found (read_piece (ltb 1 packs) ha.r s) cb hb
       two = was-accepted (read_piece (ltb 1 packs) ha.r s) is_b ok-b
 
-      pub third-found : {e : Refusal} {given : Joined} → cd.answer ≡ Refused e → given ≡ NotJoined (refusal_of cd.answer) → JoinDone whole out out given
+      pub third-found : {e : Refusal} {given : Result ℕ Refusal} → cd.answer ≡ Err e → given ≡ Err (refusal_of cd.answer) → JoinDone whole out out given
       third-found why given_is =
           given-refused
           (refused-third f s t (length out) packs some few one.file two.file ha.r one.read two.read
           (was-refused (read_piece (ltb 2 packs) ha.r t) is_c why))
           why given_is
 
-      module _ {hc : PackHead} (ok-c : cd.answer ≡ Accepted hc) where
+      module _ {hc : PackHead} (ok-c : cd.answer ≡ Ok hc) where
         three : Found (read_piece (ltb 2 packs) ha.r t) cd hc
         three = was-accepted (read_piece (ltb 2 packs) ha.r t) is_c ok-c
 
@@ -195,12 +192,12 @@ module _ (f s t out : List ℕ) (packs : ℕ) (some : 1 ≤ packs) (few : packs 
         read-c : read_piece (ltb 2 packs) one.file.content.r t ≡ accepted three.file
         read-c = subst (λ r. read_piece (ltb 2 packs) r t ≡ accepted three.file) r-is three.read
 
-        pub differs-b : (hb.r ≡ ha.r → ⊥) → JoinDone whole out out (NotJoined Unjoinable)
+        pub differs-b : (hb.r ≡ ha.r → ⊥) → JoinDone whole out out (Err Unjoinable)
         differs-b differ =
             done_refused out (second-differs f s t one.file two.file three.file one.read (length out) packs some few read-b read-c
             (λ same. differ (r-b ∙ same ∙ sym r-is)))
 
-        pub differs-c : hb.r ≡ ha.r → (hc.r ≡ ha.r → ⊥) → JoinDone whole out out (NotJoined Unjoinable)
+        pub differs-c : hb.r ≡ ha.r → (hc.r ≡ ha.r → ⊥) → JoinDone whole out out (Err Unjoinable)
         differs-c sb differ =
             done_refused out (third-differs f s t one.file two.file three.file one.read (length out) packs some few read-b read-c
             (sym r-b ∙ sb ∙ r-is) (λ same. differ (r-c ∙ same ∙ sym r-is)))
@@ -238,7 +235,7 @@ module _ (f s t out : List ℕ) (packs : ℕ) (some : 1 ≤ packs) (few : packs 
                 nodes-most = (fa.1, fb.1, fc.1);
               })
 
-          pub found-done : (left : List ℕ) (given : Joined) → JoinDone (join_packs (estate_packs found f s t) (length out)) out left given
+          pub found-done : (left : List ℕ) (given : Result ℕ Refusal) → JoinDone (join_packs (estate_packs found f s t) (length out)) out left given
               → JoinDone whole out left given
           found-done left given done =
               subst (λ m. JoinDone m out left given)

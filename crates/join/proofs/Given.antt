@@ -1,6 +1,7 @@
 -- The packs of a call as the code finds them: what a check says of each, one that is not there, and that all are within what the
 -- code asks. Assumes nothing.
 use Prim.Native.Nat.{ℕ, ◌*◌, ◌≤◌, ◌<◌}
+use Rattle.std.specs.Prelude.{Ok, Err}
 use native.Mathlib.Omega.{arith}
 use native.Mathlib.Nat.{le_refl}
 use mathlib.Core.Path.{◌≡◌, refl, sym, ◌∙◌, ap, subst}
@@ -25,7 +26,6 @@ use Rattle.layers.proofs.Listing.{dark-count, dark_list-dark_of}
 use Rattle.pack.specs.Pack.{Pack, GoodPack, read_pack}
 use Rattle.pack.specs.Answers.{pack_head, pack_checked}
 use Rattle.pack.specs.declared.PackHead.{PackHead}
-use Rattle.pack.specs.declared.PackAnswer.TheVariants.{Accepted, Refused}
 use Rattle.pack.specs.declared.PackCheck.{PackCheck}
 use Rattle.pack.proofs.Accepted.{read-of-pack, blocks-stand}
 use Rattle.join.specs.Estate.{piece_pack, read_piece, HeadFits, PieceFits}
@@ -34,7 +34,7 @@ use Rattle.join.specs.declared.Estate.{Estate}
 use Rattle.join.proofs.Pieces.{Absent}
 
 -- what a check's answer says of the reading
-pub was-refused : (m : Checked (Located Pack)) {check : PackCheck} {e : Refusal} → check ≡ pack_checked m → check.answer ≡ Refused e → m ≡ refused e
+pub was-refused : (m : Checked (Located Pack)) {check : PackCheck} {e : Refusal} → check ≡ pack_checked m → check.answer ≡ Err e → m ≡ refused e
 was-refused (accepted file) is why = let v = ap (λ (c : PackCheck). c.answer) is in cc
 was-refused (refused e) is why = let v = ap (λ (c : PackCheck). c.answer) is in cc
 
@@ -45,7 +45,7 @@ pub record Found (m : Checked (Located Pack)) (check : PackCheck) (head : PackHe
   pub layers-are : check.layers ≡ five_heads (heads_of file.content.layers)
   pub list-is : check.dark ≡ dark_of file.content.dark
 
-pub was-accepted : (m : Checked (Located Pack)) {check : PackCheck} {head : PackHead} → check ≡ pack_checked m → check.answer ≡ Accepted head
+pub was-accepted : (m : Checked (Located Pack)) {check : PackCheck} {head : PackHead} → check ≡ pack_checked m → check.answer ≡ Ok head
     → Found m check head
 was-accepted (accepted file) is why =
     let v = ap (λ (c : PackCheck). c.answer) is in

@@ -1,5 +1,6 @@
 -- The joined pack written: its head's numbers, its length and its bytes, from what the code goes by. Assumes nothing.
 use Prim.Native.Nat.{ℕ, ◌+◌, ◌*◌, ◌-◌, ◌≤◌, ◌<◌}
+use Rattle.std.specs.Prelude.{Result, Ok, Err}
 use native.Mathlib.Omega.{arith}
 use native.Mathlib.Nat.{zero-add, mul-le-mul}
 use mathlib.Core.Path.{◌≡◌, refl, sym, ◌∙◌, ap, subst}
@@ -16,6 +17,7 @@ use Rattle.lists.proofs.Alls.{all_map, all_of_map, all-imp, all-flatten, length-
 use Rattle.lists.proofs.UpTo.{length-map-up_to, get_d-map-up_to, all-up_to}
 use Rattle.lists.proofs.Writing.{given_back}
 use Rattle.refusal.specs.declared.Refusal.TheVariants.{Unjoinable, ShortOutput}
+use Rattle.refusal.specs.declared.Refusal.{Refusal}
 use Rattle.number.specs.Numbers.{largest_number, forms_of}
 use Rattle.packing.specs.Rows.{is_in_order}
 use Rattle.layers.specs.Layers.{head_of, heads_of, all_rows, sizes, list_numbers}
@@ -32,8 +34,6 @@ use Rattle.pack.proofs.Written.{AtMost, numbers-most, pack-head-length}
 use Rattle.join.specs.Join.{joint_mu, joint_layer, chunks_at, joint_dark, joined_pack, joinable, write_joined, join_packs}
 use Rattle.join.specs.Answers.{JoinDone}
 use Rattle.join.specs.Estate.{piece_pack, estate_packs, heads_at, capped_heads, joint_heads, layers_below, ListFits, three_lists, ListsFit, ListJoined, joined_numbers, PieceFits, EstateFits, JointFits, LayersFit, put_at}
-use Rattle.join.specs.declared.Joined.{Joined}
-use Rattle.join.specs.declared.Joined.TheVariants.{Written, Refused}
 use Rattle.join.specs.declared.Piece.{Piece}
 use Rattle.join.specs.declared.Estate.{Estate}
 use Rattle.join.specs.declared.JointHeads.{JointHeads}
@@ -258,14 +258,14 @@ module _ (e : Estate) (f s t : List ℕ) where
 
 -- An output that is too short, and one that is not.
 pub done-short : (p : Pack) (out : List ℕ) {size : ℕ} → size ≡ length (bytes_of_pack p) → length out < size
-    → JoinDone (write_joined p (length out)) out out (Refused (ShortOutput size))
+    → JoinDone (write_joined p (length out)) out out (Err (ShortOutput size))
 unfolding write_joined
 done-short p out {size} is short =
     let test : leb (length (bytes_of_pack p)) (length out) ≡ false = lt-leb (length (bytes_of_pack p)) (length out) (omega arith) in
     rw (test, is) (record { given_is = refl; output-after = refl })
 
 pub done-written : (p : Pack) (out left : List ℕ) {size : ℕ} → size ≡ length (bytes_of_pack p) → size ≤ length out
-    → left ≡ over_start (bytes_of_pack p) out → JoinDone (write_joined p (length out)) out left (Written size)
+    → left ≡ over_start (bytes_of_pack p) out → JoinDone (write_joined p (length out)) out left (Ok size)
 unfolding write_joined
 done-written p out left {size} is room wrote =
     let test : leb (length (bytes_of_pack p)) (length out) ≡ true = le-leb (length (bytes_of_pack p)) (length out) (omega arith) in
@@ -284,18 +284,18 @@ module _ (e : Estate) (f s t : List ℕ) where
   joinable-is = rw (eq-eqb e.r e.r refl, nodes-are e f s t, joined-heads e f s t, bounds-are e f s t)
 
   unjoinable : (out : List ℕ) → joinable (estate_packs e f s t) ≡ false
-      → JoinDone (join_packs (estate_packs e f s t) (length out)) out out (Refused Unjoinable)
+      → JoinDone (join_packs (estate_packs e f s t) (length out)) out out (Err Unjoinable)
   unfolding join_packs
   unjoinable out fails = rw fails (record { given_is = refl; output-after = refl })
 
   pub too-many-nodes : (out : List ℕ) → 255 < e.a.nodes + e.b.nodes + e.c.nodes
-      → JoinDone (join_packs (estate_packs e f s t) (length out)) out out (Refused Unjoinable)
+      → JoinDone (join_packs (estate_packs e f s t) (length out)) out out (Err Unjoinable)
   too-many-nodes out many =
       unjoinable out (joinable-is ∙ rw (lt-leb (e.a.nodes + e.b.nodes + e.c.nodes) 255 many))
 
   module _ {joint : JointHeads} (is : joint ≡ joint_heads (capped e f s t)) where
     pub too-large-mu : (out : List ℕ) → 4_096 < joint.most
-        → JoinDone (join_packs (estate_packs e f s t) (length out)) out out (Refused Unjoinable)
+        → JoinDone (join_packs (estate_packs e f s t) (length out)) out out (Err Unjoinable)
     too-large-mu out large =
         unjoinable out (joinable-is ∙ rw (lt-leb (largest (map (λ head. head.bound) (exact e f s t))) 4_096 (above (le-or-lt (largest (map (λ head. head.bound) (exact e f s t))) 4_096))) (and-false (leb (e.a.nodes + e.b.nodes + e.c.nodes) 255 && leb (sizes (exact e f s t)) 4_096)))
       where
@@ -319,11 +319,11 @@ module _ (e : Estate) (f s t : List ℕ) where
       most-is = ap (λ (j : JointHeads). j.most) is ∙ ap (λ (l : List LayerHead). largest (map (λ head. head.bound) l)) same-heads
 
       pub too_many_rows : (out : List ℕ) → 4_096 < joint.rows
-          → JoinDone (join_packs (estate_packs e f s t) (length out)) out out (Refused Unjoinable)
+          → JoinDone (join_packs (estate_packs e f s t) (length out)) out out (Err Unjoinable)
       too_many_rows out many =
           unjoinable out (joinable-is ∙ rw (lt-leb (sizes (exact e f s t)) 4_096 (omega (arith, rows_is)), and-false (leb (e.a.nodes + e.b.nodes + e.c.nodes) 255)))
 
-      pub within-done : (out left : List ℕ) (given : Joined) → e.a.nodes + e.b.nodes + e.c.nodes ≤ 255 → joint.rows ≤ 4_096
+      pub within-done : (out left : List ℕ) (given : Result ℕ Refusal) → e.a.nodes + e.b.nodes + e.c.nodes ≤ 255 → joint.rows ≤ 4_096
           → JoinDone (write_joined (whole e f s t) (length out)) out left given
           → JoinDone (join_packs (estate_packs e f s t) (length out)) out left given
       unfolding join_packs

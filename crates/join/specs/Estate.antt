@@ -1,5 +1,5 @@
 -- What the code of joining goes by: three packs as their numbers and bytes, and the joined mu's and m's. Assumes nothing.
-use Rattle.std.specs.Prelude.{ℕ, zero, suc, ◌+◌, ◌*◌, ◌/◌, ◌≤◌, ◌<◌, min, ◌≡◌, Bool, true, false, length, get_or, take, drop, T}
+use Rattle.std.specs.Prelude.{ℕ, zero, suc, ◌+◌, ◌*◌, ◌/◌, ◌≤◌, ◌<◌, min, ◌≡◌, Bool, true, false, length, get_or, take, drop, T, Result, Ok, Err}
 use mathlib.Core.List.{List, [], ◌∷◌, ◌++◌, map, flatten}
 use Rattle.lists.specs.Lists.{All, largest, over_start, up_to}
 use Rattle.refusal.specs.declared.Refusal.{Refusal}
@@ -13,13 +13,12 @@ use Rattle.layers.specs.Answers.{no_head, five_heads, dark_list}
 use Rattle.layers.specs.declared.Dark.{Dark}
 use Rattle.layers.specs.declared.LayerHead.{LayerHead}
 use Rattle.pack.specs.Pack.{Pack, read_pack}
-use Rattle.pack.specs.declared.PackAnswer.{PackAnswer}
-use Rattle.pack.specs.declared.PackAnswer.TheVariants.{Accepted, Refused as NotAccepted}
 use Rattle.join.specs.Join.{joint_mu}
 use Rattle.join.specs.declared.Piece.{Piece}
 use Rattle.join.specs.declared.Estate.{Estate}
 use Rattle.join.specs.declared.JointHeads.{JointHeads}
 use Rattle.join.specs.declared.Layering.{Layering}
+use Rattle.pack.specs.declared.PackHead.{PackHead}
 
 -- the pack that a piece stands for: its blocks are the bytes from their place on
 abbrev pub piece_pack : (r : ℕ) → Piece → (bytes : List ℕ) → Pack
@@ -42,9 +41,9 @@ read_piece false r bytes =
     accepted (record { content = record { n = 0; r = r; dark = []; layers = [] }; first = length bytes })
 
 -- the refusal of a pack that was not accepted; the code asks it of no other
-abbrev pub refusal_of : PackAnswer → Refusal
-refusal_of (Accepted head) = Unjoinable
-refusal_of (NotAccepted e) = e
+abbrev pub refusal_of : Result PackHead Refusal → Refusal
+refusal_of (Ok head) = Unjoinable
+refusal_of (Err e) = e
 
 -- how many rows the packs with these mu's and m's bring into a layer with the joined mu
 unfoldable pub joint_size : (mu : ℕ) → List LayerHead → ℕ

@@ -4,13 +4,6 @@
 use layers::{Dark, LayerHead};
 use refusal::Refusal;
 
-// How many bytes the joined pack has, now at the output's start; or the refusal.
-#[derive(Clone, Copy)]
-pub enum Joined {
-    Written(usize),
-    Refused(Refusal),
-}
-
 // A pack that is joined: its nodes, the place of its first block, mu and m of each layer, and the nodes out of service.
 #[derive(Clone, Copy)]
 pub struct Piece {

@@ -2,8 +2,6 @@
 // input, and writes the joined pack, or the line of the refusal; nothing where the lengths can't be read.
 #![tactic(auto)]
 
-use join::Joined;
-use number::NumberRead;
 use refusal::Refusal;
 
 // More than the largest joined pack has.
@@ -11,20 +9,12 @@ const ROOM: usize = 21_000;
 
 // The first `n` bytes; none where there are fewer.
 fn start_of(bytes: &[u8], n: usize) -> &[u8] {
-    if n <= bytes.len() {
-        &bytes[0..n]
-    } else {
-        &bytes[0..0]
-    }
+    bytes.get(..n).unwrap_or(&[])
 }
 
 // The bytes from `at` on; none where there are fewer.
 fn after(bytes: &[u8], at: usize) -> &[u8] {
-    if at <= bytes.len() {
-        &bytes[at..]
-    } else {
-        &bytes[0..0]
-    }
+    bytes.get(at..).unwrap_or(&[])
 }
 
 fn put(rt: &impl Print, text: &str, n: usize) {
@@ -41,19 +31,19 @@ fn refuse(rt: &impl Print, e: Refusal) {
 fn answer(rt: &impl Print, first: &[u8], second: &[u8], third: &[u8]) {
     let mut out = [0u8; ROOM];
     match join_code::join_three(first, second, third, &mut out) {
-        Joined::Written(n) => {
+        Ok(n) => {
             let _ = rt.write_all(start_of(&out, n));
         }
-        Joined::Refused(e) => refuse(rt, e),
+        Err(e) => refuse(rt, e),
     }
 }
 
 // Takes the packs apart.
 fn packs(rt: &impl Print, input: &[u8]) {
-    let NumberRead::Value(one) = number_code::read_number(input, 0) else {
+    let Ok(one) = number_code::read_number(input, 0) else {
         return;
     };
-    let NumberRead::Value(two) = number_code::read_number(input, one.next) else {
+    let Ok(two) = number_code::read_number(input, one.next) else {
         return;
     };
     let rest = after(input, two.next);

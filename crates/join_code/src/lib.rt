@@ -1,16 +1,15 @@
 // Joining packs: checked in order, then joined layer by layer into one.
 #![tactic(auto)]
 
-ghost use Rattle.std.specs.Prelude.{◌≡◌, ◌≤◌, [], ◌∷◌, length, take};
+ghost use Rattle.std.specs.Prelude.{◌≡◌, ◌≤◌, [], ◌∷◌, length, take, Err};
 ghost use Rattle.pack.specs.Answers.{pack_checked};
 ghost use Rattle.join.specs.Join.{join_packs, join as join_of};
 ghost use Rattle.join.specs.Answers.{JoinDone};
-ghost use Rattle.join.specs.declared.Joined.TheVariants.{Refused};
 ghost use Rattle.join.specs.Estate.{estate_packs, read_piece, refusal_of, EstateFits};
 
-use join::{Estate, Joined, Piece};
+use join::{Estate, Piece};
 use layers::{Dark, LayerHead};
-use pack::{PackAnswer, PackCheck, PackHead};
+use pack::{PackCheck, PackHead};
 use refusal::Refusal;
 
 // Checks a pack; where none is given, one with no node and no block, of this r.
@@ -26,7 +25,7 @@ fn check_piece(bytes: &[u8], given: bool, r: usize) -> PackCheck
         first: bytes.len(),
     };
     PackCheck {
-        answer: PackAnswer::Accepted(head),
+        answer: Ok(head),
         layers: [LayerHead { bound: 0, size: 0 }; 5],
         dark: Dark {
             count: 0,
@@ -36,7 +35,13 @@ fn check_piece(bytes: &[u8], given: bool, r: usize) -> PackCheck
 }
 
 // Joins three packs of one r: refuses what passes the limits, then writes.
-fn join_estate(first: &[u8], second: &[u8], third: &[u8], estate: Estate, out: &mut [u8]) -> Joined
+fn join_estate(
+    first: &[u8],
+    second: &[u8],
+    third: &[u8],
+    estate: Estate,
+    out: &mut [u8],
+) -> Result<usize, Refusal>
     requires { EstateFits estate first.now second.now third.now }
     ensures { JoinDone
         (join_packs (estate_packs estate first.now second.now third.now) (length out.old))
@@ -48,33 +53,39 @@ fn join_estate(first: &[u8], second: &[u8], third: &[u8], estate: Estate, out: &
     let three = estate.c;
     let n = one.nodes + two.nodes + three.nodes;
     if 255 < n {
-        return Joined::Refused(Refusal::Unjoinable);
+        return Err(Refusal::Unjoinable);
     }
     let one_layers = one.layers;
     let two_layers = two.layers;
     let three_layers = three.layers;
     let joint = join_mu::joint_heads(r, one_layers, two_layers, three_layers);
     if 4_096 < joint.most {
-        return Joined::Refused(Refusal::Unjoinable);
+        return Err(Refusal::Unjoinable);
     }
     if 4_096 < joint.rows {
-        return Joined::Refused(Refusal::Unjoinable);
+        return Err(Refusal::Unjoinable);
     }
     join_writer::write_joined(first, second, third, estate, joint, out)
 }
 
 // The refusal of a pack that was not accepted; the code asks it of no other.
-fn refuse(answer: PackAnswer) -> Joined
-    ensures { result ≡ Refused (refusal_of answer) }
+fn refuse(answer: Result<PackHead, Refusal>) -> Result<usize, Refusal>
+    ensures { result ≡ Err (refusal_of answer) }
 {
     match answer {
-        PackAnswer::Refused(e) => Joined::Refused(e),
-        PackAnswer::Accepted(_) => Joined::Refused(Refusal::Unjoinable),
+        Err(e) => Err(e),
+        Ok(_) => Err(Refusal::Unjoinable),
     }
 }
 
 // Joins the first one, two or three of these packs.
-fn join_packs(packs: usize, first: &[u8], second: &[u8], third: &[u8], out: &mut [u8]) -> Joined
+fn join_packs(
+    packs: usize,
+    first: &[u8],
+    second: &[u8],
+    third: &[u8],
+    out: &mut [u8],
+) -> Result<usize, Refusal>
     requires le_packs { 1 ≤ packs }
     requires packs_bound { packs ≤ 3 }
     ensures { JoinDone
@@ -83,25 +94,25 @@ fn join_packs(packs: usize, first: &[u8], second: &[u8], third: &[u8], out: &mut
 {
     let a = check_piece(first, true, 0);
     let a_answer = a.answer;
-    let PackAnswer::Accepted(a_head) = a_answer else {
+    let Ok(a_head) = a_answer else {
         return refuse(a_answer);
     };
     let r = a_head.r;
     let b = check_piece(second, 1 < packs, r);
     let b_answer = b.answer;
-    let PackAnswer::Accepted(b_head) = b_answer else {
+    let Ok(b_head) = b_answer else {
         return refuse(b_answer);
     };
     let c = check_piece(third, 2 < packs, r);
     let c_answer = c.answer;
-    let PackAnswer::Accepted(c_head) = c_answer else {
+    let Ok(c_head) = c_answer else {
         return refuse(c_answer);
     };
     if b_head.r != r {
-        return Joined::Refused(Refusal::Unjoinable);
+        return Err(Refusal::Unjoinable);
     }
     if c_head.r != r {
-        return Joined::Refused(Refusal::Unjoinable);
+        return Err(Refusal::Unjoinable);
     }
     let a_layers = a.layers;
     let b_layers = b.layers;
@@ -134,7 +145,7 @@ fn join_packs(packs: usize, first: &[u8], second: &[u8], third: &[u8], out: &mut
 }
 
 // Joins one pack: an empty layer's mu becomes 1, and each number has its shortest form.
-pub fn join_one(first: &[u8], out: &mut [u8]) -> Joined
+pub fn join_one(first: &[u8], out: &mut [u8]) -> Result<usize, Refusal>
     ensures { JoinDone (join_of (first.now ∷ []) (length out.old))
         out.old out.new result }
 {
@@ -142,7 +153,7 @@ pub fn join_one(first: &[u8], out: &mut [u8]) -> Joined
 }
 
 // Joins two packs: the second's nodes come after the first's.
-pub fn join_two(first: &[u8], second: &[u8], out: &mut [u8]) -> Joined
+pub fn join_two(first: &[u8], second: &[u8], out: &mut [u8]) -> Result<usize, Refusal>
     ensures { JoinDone (join_of (first.now ∷ second.now ∷ []) (length out.old))
         out.old out.new result }
 {
@@ -150,7 +161,12 @@ pub fn join_two(first: &[u8], second: &[u8], out: &mut [u8]) -> Joined
 }
 
 // Joins three packs.
-pub fn join_three(first: &[u8], second: &[u8], third: &[u8], out: &mut [u8]) -> Joined
+pub fn join_three(
+    first: &[u8],
+    second: &[u8],
+    third: &[u8],
+    out: &mut [u8],
+) -> Result<usize, Refusal>
     ensures { JoinDone
         (join_of (first.now ∷ second.now ∷ third.now ∷ []) (length out.old))
         out.old out.new result }

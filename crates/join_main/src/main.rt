@@ -10,7 +10,6 @@ ghost use Rattle.call_replies.specs.Join.{join_reply};
 
 use console::Taken;
 use replies::OUTPUT_MOST;
-use report::Reply;
 
 // Puts what is written for so many named files at the start of `out`, and answers its length: such a slice is never refused.
 fn reply(named: usize, first: &[u8], second: &[u8], third: &[u8], out: &mut [u8]) -> usize
@@ -19,7 +18,7 @@ fn reply(named: usize, first: &[u8], second: &[u8], third: &[u8], out: &mut [u8]
         (join_reply named first.now second.now third.now (length out.old)) result
         out.old out.new }
 {
-    let Reply::Written(length) = reply_join::join_reply(named, first, second, third, out) else {
+    let Ok(length) = reply_join::join_reply(named, first, second, third, out) else {
         return 0;
     };
     length

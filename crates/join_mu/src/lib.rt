@@ -17,14 +17,12 @@ fn common_multiple(a: usize, b: usize) -> usize
     requires b_bound { b ≤ 4_097 }
     ensures { result ≡ min (lcm a b) 4_097 }
 {
-    let step = minmax::larger(a, b);
-    let other = minmax::smaller(a, b);
-    let mut m = step;
-    while m <= 4_096 {
+    let step = a.max(b);
+    let other = a.min(b);
+    for m in (step..4_097).step_by(step) {
         if m % other == 0 {
             return m;
         }
-        m += step;
     }
     4_097
 }
@@ -83,13 +81,11 @@ pub fn joint_heads(r: usize, a: [LayerHead; 5], b: [LayerHead; 5], c: [LayerHead
     let mut heads = [LayerHead { bound: 0, size: 0 }; 5];
     let mut most: usize = 0;
     let mut rows: usize = 0;
-    let mut x: usize = 0;
-    while x < r {
+    for x in 0..r {
         let head = joint_head(a[x], b[x], c[x]);
-        most = minmax::larger(most, head.bound);
+        most = most.max(head.bound);
         rows += head.size;
         heads[x] = head;
-        x += 1;
     }
     JointHeads { most, rows, heads }
 }

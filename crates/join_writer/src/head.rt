@@ -11,11 +11,7 @@ use layers::{Base, LayerHead};
 fn layer_numbers(heads: [LayerHead; 5]) -> [usize; 10]
     ensures { result ≡ head_numbers heads }
 {
-    let h0 = heads[0];
-    let h1 = heads[1];
-    let h2 = heads[2];
-    let h3 = heads[3];
-    let h4 = heads[4];
+    let [h0, h1, h2, h3, h4] = heads;
     [
         h0.bound, h0.size, h1.bound, h1.size, h2.bound, h2.size, h3.bound, h3.size, h4.bound,
         h4.size,

@@ -10,7 +10,7 @@ ghost use Rattle.join.specs.Join.{joined_pack, write_joined};
 ghost use Rattle.join.specs.Answers.{JoinDone};
 ghost use Rattle.join.specs.Estate.{estate_packs, JointFits};
 
-use join::{Estate, Joined, JointHeads};
+use join::{Estate, JointHeads};
 use layers::Base;
 use refusal::Refusal;
 
@@ -22,7 +22,7 @@ pub fn write_joined(
     estate: Estate,
     joint: JointHeads,
     out: &mut [u8],
-) -> Joined
+) -> Result<usize, Refusal>
     requires { JointFits estate joint first.now second.now third.now }
     ensures { JoinDone
         (write_joined (joined_pack (estate_packs estate first.now second.now third.now)) (length out.old))
@@ -45,9 +45,9 @@ pub fn write_joined(
     let at = crate::head::write_head(&mut head, Base { n, r, dark }, heads);
     let length = at + rows * r;
     if out.len() < length {
-        return Joined::Refused(Refusal::ShortOutput(length));
+        return Err(Refusal::ShortOutput(length));
     }
     rows_code::copy_bytes(out, &head[0..at]);
     crate::rows::write_layers(&mut out[at..], first, second, third, estate, heads);
-    Joined::Written(length)
+    Ok(length)
 }

@@ -19,10 +19,8 @@ fn add_nodes(
     ensures { take (at + count) result ≡ take at list ++ map (λ v. before + v) (take count nodes) }
 {
     let mut whole = list;
-    let mut i: usize = 0;
-    while i < count {
+    for i in 0..count {
         whole[at + i] = before + nodes[i];
-        i += 1;
     }
     whole
 }

@@ -12,10 +12,8 @@ fn shift_bytes(out: &mut [u8], bytes: &[u8], before: u8)
     requires all { All (λ v. before + v < 256) bytes.now }
     ensures { out.new ≡ over_start (map (λ v. before + v) bytes.now) out.old }
 {
-    let mut place: usize = 0;
-    while place < bytes.len() {
-        out[place] = before + bytes[place];
-        place += 1;
+    for (place, byte) in bytes.iter().enumerate() {
+        out[place] = before + *byte;
     }
 }
 
@@ -26,12 +24,9 @@ fn write_copies(out: &mut [u8], bytes: &[u8], before: u8, copies: usize)
     ensures { out.new
         ≡ over_start (copied_bytes copies (map (λ v. before + v) bytes.now)) out.old }
 {
-    let mut done: usize = 0;
-    let mut to: usize = 0;
-    while done < copies {
+    for done in 0..copies {
+        let to = done * bytes.len();
         shift_bytes(&mut out[to..], bytes, before);
-        to += bytes.len();
-        done += 1;
     }
 }
 
@@ -112,8 +107,7 @@ pub(crate) fn write_layers(
     let mut from_second = two.place;
     let mut from_third = three.place;
     let mut at: usize = 0;
-    let mut x: usize = 0;
-    while x < r {
+    for x in 0..r {
         let a = one_layers[x];
         let b = two_layers[x];
         let c = three_layers[x];
@@ -140,6 +134,5 @@ pub(crate) fn write_layers(
         from_first = end_first;
         from_second = end_second;
         from_third = end_third;
-        x += 1;
     }
 }

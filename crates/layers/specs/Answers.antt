@@ -1,11 +1,9 @@
 -- The answers of reading heads as values of the code's types, and what the code's answer of a row says. Assumes nothing.
-use Rattle.std.specs.Prelude.{ℕ, ◌≤◌, ◌<◌, List, [], ◌∷◌, ◌++◌, length, take, replicate}
+use Rattle.std.specs.Prelude.{ℕ, ◌≤◌, ◌<◌, List, [], ◌∷◌, ◌++◌, length, take, replicate, Option, Some, None, Result}
 use Rattle.lists.specs.Lists.{All}
-use Rattle.refusal.specs.declared.Verdict.TheVariants.{Good, Refused}
-use Rattle.refusal.specs.Checked.{Checked, accepted, refused}
+use Rattle.refusal.specs.declared.Refusal.{Refusal}
+use Rattle.refusal.specs.Checked.{Checked, answered}
 use Rattle.refusal.specs.Refusals.{Outcome, result}
-use Rattle.packing.specs.declared.RowFound.{RowFound}
-use Rattle.packing.specs.declared.RowFound.TheVariants.{At, Nothing}
 use Rattle.layers.specs.Layers.{Site, NodesReading, BaseReading, LayerHeads}
 use Rattle.layers.specs.declared.Base.{Base}
 use Rattle.layers.specs.declared.Dark.{Dark}
@@ -13,6 +11,7 @@ use Rattle.layers.specs.declared.DarkRead.{DarkRead}
 use Rattle.layers.specs.declared.BaseRead.{BaseRead}
 use Rattle.layers.specs.declared.LayerHead.{LayerHead}
 use Rattle.layers.specs.declared.LayersRead.{LayersRead}
+use Rattle.packing.specs.declared.Record.{Record}
 
 -- the code's array of five for up to five layers, filled up with `none`
 abbrev pub five : {A : Type 0} → (none : A) → List A → List A
@@ -52,19 +51,16 @@ pub record DarkFits (dark : Dark) : Type 0 where
   pub few : dark.count ≤ 255
   pub bytes : All (λ v. v < 256) (dark_list dark)
 
-abbrev pub dark_read : Checked NodesReading → DarkRead
-dark_read (accepted d) = record { verdict = Good; dark = dark_of d.nodes; next = d.next }
-dark_read (refused e) = record { verdict = Refused e; dark = dark_of []; next = 0 }
+abbrev pub dark_read : Checked NodesReading → Result DarkRead Refusal
+dark_read = answered (λ d. record { dark = dark_of d.nodes; next = d.next })
 
-abbrev pub base_read : Checked BaseReading → BaseRead
-base_read (accepted b) = record { verdict = Good; kind = b.kind; base = base_of b.base; next = b.next }
-base_read (refused e) = record { verdict = Refused e; kind = 0; base = base_of (record { n = 0; r = 0; dark = [] }); next = 0 }
+abbrev pub base_read : Checked BaseReading → Result BaseRead Refusal
+base_read = answered (λ b. record { kind = b.kind; base = base_of b.base; next = b.next })
 
-abbrev pub layers_read : Checked LayerHeads → LayersRead
-layers_read (accepted layers) = record { verdict = Good; heads = five_heads layers.heads; next = layers.next }
-layers_read (refused e) = record { verdict = Refused e; heads = five_heads []; next = 0 }
+abbrev pub layers_read : Checked LayerHeads → Result LayersRead Refusal
+layers_read = answered (λ layers. record { heads = five_heads layers.heads; next = layers.next })
 
 -- the value is the row's record number; there is none where no row was found
-abbrev pub row_outcome : RowFound → Outcome
-row_outcome (At row) = result (row.0 ∷ [])
-row_outcome Nothing = result []
+abbrev pub row_outcome : Option Record → Outcome
+row_outcome (Some row) = result (row.0 ∷ [])
+row_outcome None = result []

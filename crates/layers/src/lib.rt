@@ -1,8 +1,6 @@
 // What packs and placements share: what reading their heads and checking their rows gives.
 #![tactic(auto)]
 
-use refusal::Verdict;
-
 // Which file is read: each has its own first numbers.
 #[derive(Clone, Copy)]
 pub enum FileKind {
@@ -17,10 +15,9 @@ pub struct Dark {
     pub nodes: [usize; 255],
 }
 
-// What reading the list of these nodes gives, with the next place; the list is empty beside a refusal.
+// What reading the list of these nodes gives, with the next place.
 #[derive(Clone, Copy)]
 pub struct DarkRead {
-    pub verdict: Verdict,
     pub dark: Dark,
     pub next: usize,
 }
@@ -33,10 +30,9 @@ pub struct Base {
     pub dark: Dark,
 }
 
-// What reading the kind, n, r and the list gives, with the next place; all numbers are 0 beside a refusal.
+// What reading the kind, n, r and the list gives, with the next place.
 #[derive(Clone, Copy)]
 pub struct BaseRead {
-    pub verdict: Verdict,
     pub kind: usize,
     pub base: Base,
     pub next: usize,
@@ -58,11 +54,9 @@ pub struct LayerLimits {
     pub full: bool,
 }
 
-// What reading the two numbers of every layer gives, with the next place; entries past the layers are 0, and so are all
-// numbers beside a refusal.
+// What reading the two numbers of every layer gives, with the next place; entries past the layers are 0.
 #[derive(Clone, Copy)]
 pub struct LayersRead {
-    pub verdict: Verdict,
     pub heads: [LayerHead; 5],
     pub next: usize,
 }

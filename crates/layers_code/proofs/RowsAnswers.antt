@@ -1,5 +1,6 @@
 -- The answers of checking rows: 1 or 5 for their length, then 6 over all rows, then 15, then 7. Assumes nothing.
 use Prim.Native.Nat.{ℕ, ◌+◌, ◌*◌, ◌<◌}
+use Rattle.std.specs.Prelude.{⊤, Result, Ok, Err}
 use native.Mathlib.Nat.{le_of_lt, le_refl}
 use mathlib.Core.Path.{◌≡◌, refl, ◌∙◌}
 use mathlib.Core.List.{List}
@@ -10,8 +11,6 @@ use borrow.Author.Tests.{le-leb, lt-leb}
 use Rattle.lists.specs.Lists.{All}
 use Rattle.refusal.specs.declared.Refusal.{Refusal}
 use Rattle.refusal.specs.declared.Refusal.TheVariants.{Ended, Trailing, BadRow}
-use Rattle.refusal.specs.declared.Verdict.{Verdict}
-use Rattle.refusal.specs.declared.Verdict.TheVariants.{Good, Refused}
 use Rattle.refusal.specs.Checked.{Checked, accepted, refused, ◌>>=◌, verdict}
 use Rattle.refusal.proofs.Checked.{verdict-good, verdict-refused, refused-not-accepted}
 use Rattle.packing.specs.Rows.{is_in_order, rows_at, first_bad}
@@ -41,14 +40,14 @@ ascend : (base : Site) (at : ℕ) (rows : List (List ℕ)) {u : Unit} → check_
 ascend base at rows e = rows-ascend base.n rows (in_order base at rows e)
 
 module _ (base : Site) (heads : List LayerHead) (s : List ℕ) (at rows : ℕ) (count : rows ≡ sizes heads) where
-  pub rows_short : length s < at + rows * base.r → Refused (Ended (length s)) ≡ verdict (check_rows base heads s at)
+  pub rows_short : length s < at + rows * base.r → Err (Ended (length s)) ≡ verdict (check_rows base heads s at)
   unfolding check_length check_rows
   rows_short h =
       let short : length s < at + sizes heads * base.r = rw (← count) h in
       rw (lt-leb (at + sizes heads * base.r) (length s) short)
 
   pub rows_long : at + rows * base.r < length s
-      → Refused (Trailing (at + rows * base.r)) ≡ verdict (check_rows base heads s at)
+      → Err (Trailing (at + rows * base.r)) ≡ verdict (check_rows base heads s at)
   unfolding check_length check_end check_rows
   rows_long h =
       let long : at + sizes heads * base.r < length s = rw (← count) h in
@@ -58,7 +57,7 @@ module _ (base : Site) (heads : List LayerHead) (s : List ℕ) (at rows : ℕ) (
         count,
       )
 
-  module _ (ends : at + rows * base.r ≡ length s) (order : Verdict)
+  module _ (ends : at + rows * base.r ≡ length s) (order : Result ⊤ Refusal)
       (is : order ≡ verdict (check_ascending base at (rows_at base.r rows (drop at s)))) where
     layers : List Layer
     layers = layers_at base.r heads (drop at s)
@@ -76,20 +75,20 @@ module _ (base : Site) (heads : List LayerHead) (s : List ℕ) (at rows : ℕ) (
         let e : at + sizes heads * base.r ≡ length s = rw (← count) ends in
         rw (e, le-leb (length s) (length s) (le_refl (length s)))
 
-    pub rows-unordered : {e : Refusal} → order ≡ Refused e → Refused e ≡ verdict (check_rows base heads s at)
+    pub rows-unordered : {e : Refusal} → order ≡ Err e → Err e ≡ verdict (check_rows base heads s at)
     rows-unordered k = rw (right, verdict-refused (check_ascending base at (all_rows layers)) ordered k)
 
-    module _ (good : order ≡ Good) where
+    module _ (good : order ≡ Ok tt) where
       pub rows-ordered : Ascending (all_rows (layers_at base.r heads (drop at s)))
       unfolding layers
       rows-ordered = ascend base at (all_rows layers) (verdict-good (check_ascending base at (all_rows layers)) ordered good).1
 
-      module _ (service : Verdict) (says : service ≡ verdict (check_service base at (rows_at base.r rows (drop at s)))) where
+      module _ (service : Result ⊤ Refusal) (says : service ≡ verdict (check_service base at (rows_at base.r rows (drop at s)))) where
         served : service ≡ verdict (check_service base at (all_rows layers))
         unfolding layers
         served = says ∙ rw (count, all_rows-layers_at base.r heads (drop at s))
 
-        pub rows-dark : {e : Refusal} → service ≡ Refused e → Refused e ≡ verdict (check_rows base heads s at)
+        pub rows-dark : {e : Refusal} → service ≡ Err e → Err e ≡ verdict (check_rows base heads s at)
         rows-dark k =
             rw (
               right,
@@ -97,7 +96,7 @@ module _ (base : Site) (heads : List LayerHead) (s : List ℕ) (at rows : ℕ) (
               verdict-refused (check_service base at (all_rows layers)) served k,
             )
 
-        pub rows_left : service ≡ Good → {answer : Verdict}
+        pub rows_left : service ≡ Ok tt → {answer : Result ⊤ Refusal}
             → answer ≡ verdict (check_packings base.r at (layers_at base.r heads (drop at s)))
             → answer ≡ verdict (check_rows base heads s at)
         unfolding layers

@@ -5,8 +5,7 @@
 mod ascending;
 mod service;
 
-ghost use Rattle.std.specs.Prelude.{◌≡◌, ◌≤◌, ◌<◌, length, take};
-ghost use Rattle.refusal.specs.declared.Verdict.TheVariants.{Good, Refused};
+ghost use Rattle.std.specs.Prelude.{◌≡◌, ◌≤◌, ◌<◌, length, take, Ok, Err};
 ghost use Rattle.refusal.specs.Checked.{verdict};
 ghost use Rattle.layers.specs.Layers.{sizes, check_rows};
 ghost use Rattle.layers.specs.Answers.{site_of, DarkFits};
@@ -14,22 +13,22 @@ ghost use Rattle.crowding_code.specs.Load.{first_load};
 
 pub use ascending::check_ascending;
 use layers::{Base, LayerHead};
-use refusal::{Refusal, Verdict};
+use refusal::Refusal;
 pub use service::check_service;
 
 // What checking rows gives: the verdict, and the load of layer 0, which counts for something beside a good one alone.
 #[derive(Clone, Copy)]
 pub struct RowsCheck {
-    pub verdict: Verdict,
+    pub verdict: Result<(), Refusal>,
     pub load: usize,
 }
 
 // The answer that refuses.
 fn refuse(e: Refusal) -> RowsCheck
-    ensures { result.verdict ≡ Refused e }
+    ensures { result.verdict ≡ Err e }
 {
     RowsCheck {
-        verdict: Verdict::Refused(e),
+        verdict: Err(e),
         load: 0,
     }
 }
@@ -47,7 +46,7 @@ pub fn check_rows(
     requires heads_bound { sizes (take layers heads) ≤ 4096 }
     requires dark_fits { DarkFits base.dark }
     ensures verdict_value { result.verdict ≡ verdict (check_rows (site_of base) (take layers heads) bytes.now at) }
-    ensures loaded { result.verdict ≡ Good → 0 < layers → result.load ≡ first_load base.r heads bytes.now at }
+    ensures loaded { result.verdict ≡ Ok tt → 0 < layers → result.load ≡ first_load base.r heads bytes.now at }
 {
     let r = base.r;
     let rows = crowding_code::count_rows(layers, heads);
@@ -61,17 +60,17 @@ pub fn check_rows(
     let c = crowding_code::first_size(layers, heads);
     let order = ascending::check_order(bytes, at, base, rows, c);
     let order_verdict = order.verdict;
-    if let Verdict::Refused(e) = order_verdict {
+    if let Err(e) = order_verdict {
         return refuse(e);
     }
     let service = check_service(bytes, at, base, rows);
-    if let Verdict::Refused(e) = service {
+    if let Err(e) = service {
         return refuse(e);
     }
     let load = order.load;
     // Where layer 0 has all rows its load alone settles the packing test, if it is low enough.
     if c == rows && load <= heads[0].bound {
-        let verdict = Verdict::Good;
+        let verdict = Ok(());
         return RowsCheck { verdict, load };
     }
     let verdict = crowding_code::check_packings(bytes, at, r, layers, heads, load);

@@ -7,11 +7,10 @@ ghost use Rattle.layers.specs.Answers.{site_of, DarkFits};
 
 use crowding_code::row_start;
 use layers::Base;
-use packing::RowFound;
-use refusal::{Refusal, Verdict};
+use refusal::Refusal;
 
 // Refusal 15 over the rows that start at `at`.
-pub fn check_service(bytes: &[u8], at: usize, base: Base, rows: usize) -> Verdict
+pub fn check_service(bytes: &[u8], at: usize, base: Base, rows: usize) -> Result<(), Refusal>
     requires r_in_bounds { at + rows * base.r ≤ length bytes.now }
     requires dark_fits { DarkFits base.dark }
     ensures { result
@@ -20,8 +19,8 @@ pub fn check_service(bytes: &[u8], at: usize, base: Base, rows: usize) -> Verdic
     let r = base.r;
     let dark = base.dark;
     let naming = dark_code::first_naming(&bytes[at..], rows, r, dark);
-    if let RowFound::At(row) = naming {
-        return Verdict::Refused(Refusal::OutOfService(row_start(at, r, row)));
+    if let Some(row) = naming {
+        return Err(Refusal::OutOfService(row_start(at, r, row)));
     }
-    Verdict::Good
+    Ok(())
 }

@@ -1,12 +1,12 @@
 -- Reading the layers' numbers one layer at a time: what each turn of the loop keeps, and what it answers. Assumes nothing.
 use Prim.Native.Nat.{ℕ, suc, ◌+◌, ◌-◌, ◌≤◌, ◌<◌}
+use Rattle.std.specs.Prelude.{Ok}
 use native.Mathlib.Omega.{arith}
 use native.Mathlib.Nat.{sub-zero}
 use mathlib.Core.Path.{◌≡◌, refl, sym, ◌∙◌, ap}
 use mathlib.Core.List.{List, [], ◌∷◌, ◌++◌, append_assoc, append-nil}
 use lib.ListN.{length, set, length-append}
 use Rattle.refusal.specs.declared.Refusal.{Refusal}
-use Rattle.refusal.specs.declared.Verdict.TheVariants.{Good}
 use Rattle.refusal.specs.Checked.{Checked, accepted, refused, ◌>>=◌, map_accepted}
 use Rattle.number.specs.Numbers.{read_within}
 use Rattle.number.specs.declared.Reading.{Reading}
@@ -14,7 +14,6 @@ use Rattle.number.proofs.Within.{read-of-read_within}
 use Rattle.layers.specs.Layers.{LayerHeads, least_size, read_layers}
 use Rattle.layers.specs.declared.LayerHead.{LayerHead}
 use Rattle.layers.specs.declared.LayerLimits.{LayerLimits}
-use Rattle.layers.specs.declared.LayersRead.{LayersRead}
 use Rattle.layers.specs.Answers.{no_head, five_heads, layers_read}
 use Rattle.layers.proofs.Arrays.{five-snoc}
 
@@ -56,8 +55,7 @@ module _ (limits : LayerLimits) (layers room : ℕ) (s : List ℕ) (at : ℕ) (h
     (turn : LayersTurn limits layers room s at heads next rest x) where
   -- the loop ends: what was read is all
   pub layers-done : layers ≤ x
-      → ◌≡◌ {A = LayersRead} (record { verdict = Good; heads = heads; next = next })
-      (layers_read (read_layers limits layers room s at))
+      → Ok (record { heads = heads; next = next }) ≡ layers_read (read_layers limits layers room s at)
   unfolding read_layers
   layers-done h =
       let none : layers - x ≡ 0 = omega arith in

@@ -1,11 +1,10 @@
 -- The turns of the loops that put a row's nodes and rows, and the line of the nodes out of service. Assumes nothing.
 use Prim.Native.Nat.{ℕ, zero, suc, ◌+◌, ◌*◌, ◌-◌, ◌≤◌, ◌<◌}
 use native.Mathlib.Omega.{arith}
-use native.Mathlib.Numerals.{add-one}
-use mathlib.Core.Path.{◌≡◌, refl, ◌∙◌, subst}
+use mathlib.Core.Path.{◌≡◌, refl, subst}
 use mathlib.Core.List.{List, [], ◌∷◌, ◌++◌, map, flatten}
-use lib.ListN.{length, take, drop, get_or, set, length-take}
-use lib.Seq.{drop-drop, take-length, take-suc, take-suc-set}
+use lib.ListN.{length, take, drop}
+use lib.Seq.{drop-drop}
 use Rattle.lists.proofs.Arith.{run-end-le}
 use Rattle.packing.specs.Rows.{rows_at}
 use Rattle.layers.specs.declared.Dark.{Dark}
@@ -16,18 +15,7 @@ use Rattle.table.specs.declared.Word.TheVariants.{Out}
 use Rattle.table.specs.Printing.{text_line, out_text}
 use Rattle.line_printer.proofs.Stored.{Stored, stored-none, stored_next, stored-all}
 
--- a row's nodes as numbers, one after another
-pub row_next : (row numbers : List ℕ) (i : ℕ) → i < length row → i < length numbers → take i numbers ≡ take i row
-    → take (i + 1) (set numbers i (get_or row i 0)) ≡ take (i + 1) row
-row_next row numbers i inside room same =
-    rw (add-one i, take-suc-set numbers i (get_or row i 0) room, take-suc row i 0 inside, same) refl
-
-pub row-all : (row numbers : List ℕ) (i : ℕ) → i ≤ length row → length row ≤ i → take i numbers ≡ take i row → take (length row) numbers ≡ row
-row-all row numbers i within left same =
-    let e : i ≡ length row = omega arith in
-    let s = rw e at same in
-    s ∙ take-length row
-
+-- a row's nodes as numbers
 pub row-part : (row numbers : List ℕ) → take (length row) numbers ≡ row → take (length row - 0) (drop 0 numbers) ≡ row
 row-part row numbers same = let zero : length row - 0 ≡ length row = omega arith in rw zero same
 
@@ -77,12 +65,6 @@ module _ (rows : List ℕ) (m r : ℕ) (before : List ℕ) (at : ℕ) where
       -- the row's bytes are there
       pub row_inside : m * r ≤ length rows → from + r ≤ length rows
       row_inside h = omega (arith, run-end-le r more, turn.from_is)
-
-      pub row-few : r ≤ 5 → length (take (from + r - from) (drop from rows)) ≤ 5
-      row-few h = omega (arith, length-take (from + r - from) (drop from rows))
-
-      pub row_room : at + length (row_lines r m rows) + 128 ≤ length before → place + 128 ≤ length after
-      row_room h = omega (arith, turn.stored.ends, turn.stored.same_length)
 
       pub rows_next : {next : ℕ} {after' : List ℕ} → Put (rest (take (from + r - from) (drop from rows))) after place next after'
           → RowsTurn rows m r before at after' next (from + r) (j + 1)

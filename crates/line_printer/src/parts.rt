@@ -27,10 +27,8 @@ fn row_numbers(row: &[u8]) -> [usize; 5]
     ensures { take (length row.now) result ≡ row.now }
 {
     let mut numbers = [0usize; 5];
-    let mut i: usize = 0;
-    while i < row.len() {
-        numbers[i] = row[i] as usize;
-        i += 1;
+    for (i, node) in row.iter().enumerate() {
+        numbers[i] = usize::from(*node);
     }
     numbers
 }

@@ -18,12 +18,11 @@ pub fn put_rows(out: &mut [u8], at: usize, rows: &[u8], m: usize, r: usize) -> u
 {
     let mut place = at;
     let mut from: usize = 0;
-    let mut j: usize = 0;
-    while j < m {
+    // By places and not chunks_exact, since r may be 0: each row has its line even then.
+    for _j in 0..m {
         let end = from + r;
         place = crate::parts::put_row(out, place, &rows[from..end]);
         from = end;
-        j += 1;
     }
     place
 }

@@ -2,7 +2,7 @@
 use Prim.Native.Nat.{ℕ, zero, suc, ◌+◌, max, ◌≤◌, ◌<◌}
 use native.Mathlib.Nat.{not-suc-le-zero, le_of_suc-le-suc}
 use native.Mathlib.Omega.{arith}
-use mathlib.Core.Path.{◌≡◌, ◌∙◌}
+use mathlib.Core.Path.{◌≡◌, sym, ◌∙◌}
 use mathlib.Core.Logic.{⊎_elim}
 use mathlib.Core.List.{List, [], ◌∷◌}
 use lib.ListN.{length, get_or, set, drop, drop_of_length-le}
@@ -39,11 +39,12 @@ largest-set [] i n h le = absurd (not-suc-le-zero h)
 largest-set (m ∷ l) zero n h le = omega (arith, le)
 largest-set (m ∷ l) (suc i) n h le = omega (arith, largest-set l i n (le_of_suc-le-suc h) le)
 
-module _ (l : List ℕ) (i best : ℕ) where
-  pub largest-next : i < length l → max best (largest (drop i l)) ≡ max (max best (get_or l i 0)) (largest (drop (i + 1) l))
-  unfolding largest
-  largest-next h = rw (drop-next l i 0 h) (omega arith)
+-- a loop that keeps the larger: after one element more, and after the last
+pub largest_more : (l : List ℕ) (i best now : ℕ) → largest l ≡ max best (largest (drop i l)) → i < length l
+    → now ≡ max best (get_or l i 0) → largest l ≡ max now (largest (drop (i + 1) l))
+unfolding largest
+largest_more l i best now e h n = e ∙ rw (n, drop-next l i 0 h) (omega arith)
 
-  pub largest-end : length l ≤ i → max best (largest (drop i l)) ≡ best
-  unfolding largest
-  largest-end h = rw (drop_of_length-le l h) (omega arith)
+pub largest_all : (l : List ℕ) (i best : ℕ) → largest l ≡ max best (largest (drop i l)) → length l ≤ i → best ≡ largest l
+unfolding largest
+largest_all l i best e h = sym (e ∙ rw (drop_of_length-le l h) (omega arith))

@@ -1,9 +1,7 @@
 -- A line of an outage log: "a log file is lines `time node down|up` in text". Comments and blanks are those of a block table.
 -- Assumes nothing.
-use Rattle.std.specs.Prelude.{ℕ, suc, ◌+◌, ◌*◌, ◌-◌, Bool, true, false, cond, not, ◌&&◌, List, [], ◌∷◌, take, drop, leb, ltb, eqb}
+use Rattle.std.specs.Prelude.{ℕ, suc, ◌+◌, ◌*◌, ◌-◌, Bool, true, false, cond, not, ◌&&◌, List, [], ◌∷◌, take, drop, leb, ltb, eqb, Option, Some, None}
 use Rattle.table.specs.Lines.{uncommented, is_digit, is_blank}
-use Rattle.logs.specs.declared.Typed.{Typed}
-use Rattle.logs.specs.declared.Typed.TheVariants.{Number, Other}
 use Rattle.logs.specs.declared.State.{State}
 use Rattle.logs.specs.declared.State.TheVariants.{Down, Up, Other as Neither}
 use Rattle.logs.specs.declared.LogLine.{LogLine}
@@ -38,15 +36,15 @@ abbrev pub after_word : List ℕ → List ℕ
 after_word bytes = trimmed (drop (solid bytes) bytes)
 
 -- decimal digits, after some that make `value`: "times are 32-bit seconds", so none where the number passes 4,294,967,295
-unfoldable pub digits_from : (value : ℕ) → List ℕ → Typed
-digits_from value [] = Number value
+unfoldable pub digits_from : (value : ℕ) → List ℕ → Option ℕ
+digits_from value [] = Some value
 digits_from value (byte ∷ word) =
     let next = value * 10 + (byte - 48) in
-    cond (is_digit byte && leb next 4_294_967_295) (digits_from next word) Other
+    cond (is_digit byte && leb next 4_294_967_295) (digits_from next word) None
 
 -- a word as a number: at least one digit
-unfoldable pub number_of : List ℕ → Typed
-number_of [] = Other
+unfoldable pub number_of : List ℕ → Option ℕ
+number_of [] = None
 number_of (byte ∷ word) = digits_from 0 (byte ∷ word)
 
 -- the same bytes
@@ -79,13 +77,13 @@ with_state time node Down = event_of time node true
 with_state time node Up = event_of time node false
 with_state time node Neither = Unreadable
 
-abbrev pub with_node : (time : ℕ) → Typed → State → LogLine
-with_node time (Number node) state = with_state time node state
-with_node time Other state = Unreadable
+abbrev pub with_node : (time : ℕ) → Option ℕ → State → LogLine
+with_node time (Some node) state = with_state time node state
+with_node time None state = Unreadable
 
-abbrev pub with_time : Typed → Typed → State → LogLine
-with_time (Number time) node state = with_node time node state
-with_time Other node state = Unreadable
+abbrev pub with_time : Option ℕ → Option ℕ → State → LogLine
+with_time (Some time) read state = with_node time read state
+with_time None read state = Unreadable
 
 -- what the third word leaves of the line: nothing, else it can't be read
 abbrev pub at_end : List ℕ → LogLine → LogLine
@@ -93,10 +91,10 @@ at_end [] line = line
 at_end (byte ∷ bytes) line = Unreadable
 
 -- the last of three words, and no other after it
-unfoldable pub last_word : (time node : Typed) → List ℕ → LogLine
+unfoldable pub last_word : (time node : Option ℕ) → List ℕ → LogLine
 last_word time node third = at_end (after_word third) (with_time time node (state_of (word_of third)))
 
-unfoldable pub two_words : (time : Typed) → List ℕ → LogLine
+unfoldable pub two_words : (time : Option ℕ) → List ℕ → LogLine
 two_words time second = last_word time (number_of (word_of second)) (after_word second)
 
 -- three words, "`time node down|up`"

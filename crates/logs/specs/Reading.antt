@@ -1,12 +1,11 @@
 -- An outage log as text becomes a list of events. Assumes nothing.
-use Rattle.std.specs.Prelude.{ℕ, suc, ◌≤◌, ◌≡◌, cond, List, [], ◌∷◌, ◌++◌, length, take, ltb}
+use Rattle.std.specs.Prelude.{ℕ, suc, ◌≤◌, ◌≡◌, cond, List, [], ◌∷◌, ◌++◌, length, take, ltb, Ok, Err}
 use Rattle.table.specs.Lines.{lines_of}
 use Rattle.replay.specs.declared.Event.{Event}
 use Rattle.text.specs.declared.TextRefusal.{TextRefusal}
 use Rattle.text.specs.declared.TextRefusal.TheVariants.{Unreadable as UnreadableLine, TooLong}
 use Rattle.logs.specs.declared.LogLine.{LogLine}
 use Rattle.logs.specs.declared.LogLine.TheVariants.{Happens, Nothing, Unreadable}
-use Rattle.logs.specs.declared.LogEnd.TheVariants.{Whole, Refused}
 use Rattle.logs.specs.declared.Log.{Log}
 use Rattle.logs.specs.Lines.{line_of}
 
@@ -51,10 +50,10 @@ read_log text = cond (ltb (length text) text_most) (read_text text) (unread (Too
 
 -- the events at the start of the array, as the code answers them
 pub record Held (log : List Event) (read : Log) : Type 0 where
-  pub whole : read.end ≡ Whole
+  pub whole : read.end ≡ Ok tt
   pub most : read.count ≤ events_most
   pub are : take read.count read.events ≡ log
 
 abbrev pub LogIn : LogRead → Log → Type 0
 LogIn (events log) read = Held log read
-LogIn (unread e) read = read.end ≡ Refused e
+LogIn (unread e) read = read.end ≡ Err e

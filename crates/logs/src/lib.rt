@@ -7,13 +7,6 @@ use text::TextRefusal;
 // A text of so many bytes is longer than `replay` holds.
 pub const TEXT_MOST: usize = 131_072;
 
-// A word read as a number: its value, or that it is none.
-#[derive(Clone, Copy)]
-pub enum Typed {
-    Number(u32),
-    Other,
-}
-
 // A word read as a node's new state.
 #[derive(Clone, Copy)]
 pub enum State {
@@ -30,17 +23,10 @@ pub enum LogLine {
     Unreadable,
 }
 
-// Where reading a log ends: at the text's end, or at a refusal.
-#[derive(Clone, Copy)]
-pub enum LogEnd {
-    Whole,
-    Refused(TextRefusal),
-}
-
 // The events that were read, at the start of the array, and where reading ended.
 #[derive(Clone, Copy)]
 pub struct Log {
-    pub end: LogEnd,
+    pub end: Result<(), TextRefusal>,
     pub count: usize,
     pub events: [Event; 2_048],
 }

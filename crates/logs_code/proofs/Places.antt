@@ -1,49 +1,48 @@
 -- The loops over a word's bytes, place by place. Assumes nothing.
 use Prim.Native.Nat.{ℕ, suc, ◌+◌, ◌*◌, ◌-◌, ◌≤◌, ◌<◌}
+use Rattle.std.specs.Prelude.{Some, None}
 use native.Mathlib.Omega.{arith}
 use native.Mathlib.Numerals.{add-one}
 use mathlib.Core.Path.{◌≡◌, refl, sym, ◌∙◌, ap}
-use mathlib.Core.Bool.{Bool, true, false, ◌&&◌}
+use mathlib.Core.Bool.{Bool, true, false, not, cond, ◌&&◌}
 use mathlib.Core.List.{List, [], ◌∷◌}
 use lib.ListN.{length, drop, get_or, drop_of_length-le}
 use lib.Seq.{drop-cons}
 use lib.Dec.{eqb}
-use borrow.Author.Tests.{eq-eqb, ne_eqb, le-leb, lt-leb}
-use Rattle.logs.specs.declared.Typed.TheVariants.{Number, Other}
+use lib.Pointwise.{pointwise}
+use borrow.Author.Tests.{le-leb, lt-leb}
+use Rattle.std.proofs.Common.{Option}
+use Rattle.std.specs.Option.{unwrap_or}
+use Rattle.std.specs.List.{position, position_or_len}
+use Rattle.table_lines.proofs.Looking.{place-or-end}
 use Rattle.logs.specs.Lines.{leading, digits_from, number_of, same_bytes}
+use Rattle.logs.proofs.Lines.{leading_le}
 
-module _ (test : ℕ → Bool) (bytes : List ℕ) where
-  -- all bytes before place i pass the test
-  pub record Passed (i : ℕ) : Type 0 where
-    pub within : i ≤ length bytes
-    pub same : leading test bytes ≡ i + leading test (drop i bytes)
+pub twice : (t : Bool) → t ≡ not (not t)
+twice true = refl
+twice false = refl
 
-  pub passed_none : Passed 0
-  passed_none = let e : 0 + leading test bytes ≡ leading test bytes = omega arith in record { within = omega arith; same = sym e }
+-- bytes pass the test up to the first that stops
+leading-place : (test stop : ℕ → Bool) → ((b : ℕ) → test b ≡ not (stop b)) → (bytes : List ℕ) → position_or_len stop bytes ≡ leading test bytes
+unfolding leading
+leading-place test stop is [] = refl
+leading-place test stop is (b ∷ bytes) = rw (is b) (go (not (stop b)) (leading-place test stop is bytes))
+  where
+    go : (t : Bool) {n m : ℕ} → n ≡ m → cond t (1 + n) 0 ≡ cond t (suc m) 0
+    go true e = omega (arith, e)
+    go false e = refl
 
-  module _ {i : ℕ} (p : Passed i) where
-    pub passed-all : length bytes ≤ i → i ≡ leading test bytes
-    unfolding leading
-    passed-all h = let e : i + 0 ≡ i = omega arith in sym (p.same ∙ rw (drop_of_length-le bytes h, e))
-
-    module _ (more : i < length bytes) where
-      pub passed_here : test (get_or bytes i 0) ≡ false → i ≡ leading test bytes
-      unfolding leading
-      passed_here is = let e : i + 0 ≡ i = omega arith in sym (p.same ∙ rw (drop-cons bytes i 0 more, is, e))
-
-      pub passed-next : test (get_or bytes i 0) ≡ true → Passed (i + 1)
-      unfolding leading
-      passed-next is =
-          let rest = leading test (drop (suc i) bytes) in
-          let e : i + suc rest ≡ suc i + rest = omega arith in
-          record { within = omega arith; same = p.same ∙ rw (drop-cons bytes i 0 more, is, add-one i) e }
+pub leading-or-end : (test stop : ℕ → Bool) → ((b : ℕ) → test b ≡ not (stop b)) → (bytes : List ℕ) {r : Option ℕ}
+    → r ≡ position stop bytes
+    → unwrap_or r (length bytes) ≡ leading test bytes
+leading-or-end test stop is bytes found = place-or-end stop bytes (leading-place test stop is bytes) (leading_le test bytes) found
 
 module _ (word : List ℕ) where
-  pub no_digit : length word ≡ 0 → Other ≡ number_of word
+  pub no_digit : length word ≡ 0 → None ≡ number_of word
   unfolding number_of
   no_digit z = go word z
     where
-      go : (w : List ℕ) → length w ≡ 0 → Other ≡ number_of w
+      go : (w : List ℕ) → length w ≡ 0 → None ≡ number_of w
       go [] e = refl
       go (byte ∷ w) e = absurd (omega arith)
 
@@ -62,22 +61,22 @@ module _ (word : List ℕ) where
       go (byte ∷ w) e = refl
 
   module _ {i value : ℕ} (d : Digits i value) where
-    pub digits-all : length word ≤ i → Number value ≡ number_of word
+    pub digits-all : length word ≤ i → Some value ≡ number_of word
     unfolding digits_from
     digits-all h = sym (d.same ∙ rw (drop_of_length-le word h))
 
     module _ (more : i < length word) where
-      pub digit_low : get_or word i 0 < 48 → Other ≡ number_of word
+      pub digit_low : get_or word i 0 < 48 → None ≡ number_of word
       unfolding digits_from
       digit_low h = sym (d.same ∙ rw (drop-cons word i 0 more, lt-leb 48 (get_or word i 0) h))
 
       module _ (low : 48 ≤ get_or word i 0) where
-        pub digit-high : 57 < get_or word i 0 → Other ≡ number_of word
+        pub digit-high : 57 < get_or word i 0 → None ≡ number_of word
         unfolding digits_from
         digit-high h = sym (d.same ∙ rw (drop-cons word i 0 more, le-leb 48 (get_or word i 0) low, lt-leb (get_or word i 0) 57 h))
 
         module _ (high : get_or word i 0 ≤ 57) {next : ℕ} (is : next ≡ value * 10 + (get_or word i 0 - 48)) where
-          pub digit-large : 4_294_967_295 < next → Other ≡ number_of word
+          pub digit-large : 4_294_967_295 < next → None ≡ number_of word
           unfolding digits_from
           digit-large h =
               sym (d.same
@@ -100,36 +99,10 @@ module _ (word : List ℕ) where
                     );
               }
 
--- slices of other lengths differ
-pub same-length-only : (a b : List ℕ) → (length a ≡ length b → ⊥) → false ≡ same_bytes a b
+-- bytes are compared one by one
+pub same_pointwise : (a b : List ℕ) → pointwise eqb a b ≡ same_bytes a b
 unfolding same_bytes
-same-length-only [] [] h = absurd (h refl)
-same-length-only [] (y ∷ b) h = refl
-same-length-only (x ∷ a) [] h = refl
-same-length-only (x ∷ a) (y ∷ b) h =
-    go (eqb x y) (same-length-only a b (λ e. h (ap suc e)))
-  where
-    go : (t : Bool) → false ≡ same_bytes a b → false ≡ (t && same_bytes a b)
-    go true others = others
-    go false others = refl
-
--- the bytes before place i are the same
-abbrev pub Same : (a b : List ℕ) (i : ℕ) → Type 0
-Same a b i = same_bytes a b ≡ same_bytes (drop i a) (drop i b)
-
-module _ (a b : List ℕ) (long : length a ≡ length b) (i : ℕ) (s : Same a b i) where
-  pub same-all : length a ≤ i → true ≡ same_bytes a b
-  unfolding same_bytes
-  same-all h = let g : length b ≤ i = omega arith in sym (s ∙ rw (drop_of_length-le a h, drop_of_length-le b g))
-
-  module _ (more : i < length a) where
-    inside : i < length b
-    inside = omega arith
-
-    pub same_not : (get_or a i 0 ≡ get_or b i 0 → ⊥) → false ≡ same_bytes a b
-    unfolding same_bytes
-    same_not other = sym (s ∙ rw (drop-cons a i 0 more, drop-cons b i 0 inside, ne_eqb (get_or a i 0) (get_or b i 0) other))
-
-    pub same_next : get_or a i 0 ≡ get_or b i 0 → Same a b (i + 1)
-    unfolding same_bytes
-    same_next is = s ∙ rw (drop-cons a i 0 more, drop-cons b i 0 inside, eq-eqb (get_or a i 0) (get_or b i 0) is, add-one i)
+same_pointwise [] [] = refl
+same_pointwise [] (y ∷ b) = refl
+same_pointwise (x ∷ a) [] = refl
+same_pointwise (x ∷ a) (y ∷ b) = ap (λ t. eqb x y && t) (same_pointwise a b)

@@ -1,35 +1,18 @@
 -- The parts of a line, as the code lends them. Assumes nothing.
 use Prim.Native.Nat.{ℕ, ◌+◌, ◌-◌, ◌≤◌, ◌<◌}
+use Rattle.std.specs.Prelude.{Option}
 use native.Mathlib.Omega.{arith}
 use mathlib.Core.Path.{◌≡◌, refl, ◌∙◌}
-use mathlib.Core.Bool.{true, false}
 use mathlib.Core.List.{List}
 use lib.ListN.{length, take, drop, length-drop, drop_of_length-le}
 use lib.Seq.{drop-cons}
 use Rattle.lists.proofs.Writing.{take-drop-rest}
 use Rattle.table.specs.Lines.{before, is_blank}
-use Rattle.logs.specs.declared.Typed.{Typed}
 use Rattle.logs.specs.declared.State.{State}
-use Rattle.logs.specs.declared.State.TheVariants.{Down, Up, Other}
 use Rattle.logs.specs.declared.LogLine.TheVariants.{Nothing, Unreadable}
-use Rattle.logs.specs.Lines.{no_blank, blanks, solid, word_of, after_word, same_bytes, down_word, up_word, number_of, state_of, with_time, last_word, two_words, three_words, content_line, line_of}
+use Rattle.logs.specs.Lines.{no_blank, blanks, solid, word_of, after_word, number_of, state_of, with_time, last_word, two_words, three_words, content_line, line_of}
 use Rattle.logs.proofs.Lines.{leading_le, after-word}
 use Rattle.table.proofs.Places.{before-length, before-take}
-
--- a word as a state
-module _ (word : List ℕ) where
-  pub state-down : same_bytes word down_word ≡ true → Down ≡ state_of word
-  unfolding state_of
-  state-down e = rw e refl
-
-  module _ (no-down : same_bytes word down_word ≡ false) where
-    pub state-up : same_bytes word up_word ≡ true → Up ≡ state_of word
-    unfolding state_of
-    state-up e = rw (no-down, e) refl
-
-    pub state-other : same_bytes word up_word ≡ false → Other ≡ state_of word
-    unfolding state_of
-    state-other e = rw (no-down, e) refl
 
 module _ (bytes : List ℕ) where
   module _ {end : ℕ} (is : end ≡ solid bytes) where
@@ -53,21 +36,21 @@ module _ (bytes : List ℕ) where
     rest-after = take-drop-rest bytes next ∙ after-word bytes is
 
     -- the last word, with another after it or none
-    pub last_more : (time node : Typed) → next < length bytes → Unreadable ≡ last_word time node bytes
+    pub last_more : (time node : Option ℕ) → next < length bytes → Unreadable ≡ last_word time node bytes
     unfolding last_word
     last_more time node more = rw (← after-word bytes is, drop-cons bytes next 0 more) refl
 
-    pub last-all : (time node : Typed) {state : State} → length bytes ≤ next → state ≡ state_of (word_of bytes)
+    pub last-all : (time node : Option ℕ) {state : State} → length bytes ≤ next → state ≡ state_of (word_of bytes)
         → with_time time node state ≡ last_word time node bytes
     unfolding last_word
     last-all time node all e = rw (← after-word bytes is, drop_of_length-le bytes all, e) refl
 
-    pub two_is : (time : Typed) {node : Typed} → node ≡ number_of (word_of bytes)
+    pub two_is : (time : Option ℕ) {node : Option ℕ} → node ≡ number_of (word_of bytes)
         → last_word time node (take (length bytes - next) (drop next bytes)) ≡ two_words time bytes
     unfolding two_words
     two_is time e = rw (rest-after, e) refl
 
-    pub three-is : {time : Typed} → time ≡ number_of (word_of bytes)
+    pub three-is : {time : Option ℕ} → time ≡ number_of (word_of bytes)
         → two_words time (take (length bytes - next) (drop next bytes)) ≡ three_words bytes
     unfolding three_words
     three-is e = rw (rest-after, e) refl

@@ -3,7 +3,7 @@ ghost use Rattle.std.specs.Prelude.{◌≡◌, ◌+◌, ◌≤◌, length, drop}
 ghost use Rattle.logs.specs.Lines.{blanks as blanks_of, solid as solid_of, word_of, number_of, state_of, node_of, with_time, event_of, last_word, two_words, three_words, content_line, line_of};
 
 use crate::words::{blanks, number_of, solid, state_of};
-use logs::{LogLine, State, Typed};
+use logs::{LogLine, State};
 use packing::Node;
 use replay::Event;
 
@@ -11,10 +11,7 @@ use replay::Event;
 fn node_of(v: u32) -> u8
     ensures { result ≡ node_of v }
 {
-    if v < 255 {
-        return v as u8;
-    }
-    255
+    v.min(255) as u8
 }
 
 // An event with this time, node and state.
@@ -26,13 +23,13 @@ fn event_of(time: u32, v: u32, down: bool) -> LogLine
 }
 
 // The event that three words say, where they do.
-fn event_said(time: Typed, node: Typed, state: State) -> LogLine
+fn event_said(time: Option<u32>, node: Option<u32>, state: State) -> LogLine
     ensures { result ≡ with_time time node state }
 {
-    let Typed::Number(seconds) = time else {
+    let Some(seconds) = time else {
         return LogLine::Unreadable;
     };
-    let Typed::Number(v) = node else {
+    let Some(v) = node else {
         return LogLine::Unreadable;
     };
     match state {
@@ -43,7 +40,7 @@ fn event_said(time: Typed, node: Typed, state: State) -> LogLine
 }
 
 // The first word as a number.
-fn first_number(bytes: &[u8]) -> Typed
+fn first_number(bytes: &[u8]) -> Option<u32>
     ensures { result ≡ number_of (word_of bytes.now) }
 {
     let end = solid(bytes);
@@ -68,7 +65,7 @@ fn after_word(bytes: &[u8]) -> usize
 }
 
 // The last of three words, after the two before it.
-fn last_word(time: Typed, node: Typed, third: &[u8]) -> LogLine
+fn last_word(time: Option<u32>, node: Option<u32>, third: &[u8]) -> LogLine
     ensures { result ≡ last_word time node third.now }
 {
     let state = first_state(third);
@@ -80,7 +77,7 @@ fn last_word(time: Typed, node: Typed, third: &[u8]) -> LogLine
 }
 
 // Two words, after the time.
-fn two_words(time: Typed, second: &[u8]) -> LogLine
+fn two_words(time: Option<u32>, second: &[u8]) -> LogLine
     ensures { result ≡ two_words time second.now }
 {
     let node = first_number(second);

@@ -1,10 +1,9 @@
 // Reading a log, line after line.
-ghost use Rattle.std.specs.Prelude.{◌≡◌};
-ghost use Rattle.logs.specs.declared.LogEnd.TheVariants.{Refused};
+ghost use Rattle.std.specs.Prelude.{◌≡◌, Err};
 ghost use Rattle.logs.specs.Reading.{LogIn, read_log};
 
 use crate::lines::line_of;
-use logs::{Log, LogEnd, LogLine, TEXT_MOST};
+use logs::{Log, LogLine, TEXT_MOST};
 use packing::Node;
 use replay::Event;
 use text::TextRefusal;
@@ -21,11 +20,11 @@ fn no_event() -> Event {
 
 // A text that is refused.
 fn refused(e: TextRefusal) -> Log
-    ensures { result.end ≡ Refused e }
+    ensures { result.end ≡ Err e }
 {
     let none = no_event();
     let events = [none; 2_048];
-    let end = LogEnd::Refused(e);
+    let end = Err(e);
     Log {
         end,
         count: 0,
@@ -43,15 +42,9 @@ pub fn read_log(text: &[u8]) -> Log
     let none = no_event();
     let mut events = [none; 2_048];
     let mut count: usize = 0;
-    let mut at: usize = 0;
-    let mut line: usize = 0;
-    while at <= text.len() {
-        line += 1;
-        let end = at + table_lines::first_of(&text[at..], b'\n');
-        let read = line_of(&text[at..end]);
-        at = end + 1;
-        match read {
-            LogLine::Unreadable => return refused(TextRefusal::Unreadable(line)),
+    for (i, bytes) in text.split(|b| *b == b'\n').enumerate() {
+        match line_of(bytes) {
+            LogLine::Unreadable => return refused(TextRefusal::Unreadable(i + 1)),
             LogLine::Nothing => continue,
             LogLine::Happens(event) => {
                 if 2_048 <= count {
@@ -62,6 +55,6 @@ pub fn read_log(text: &[u8]) -> Log
             }
         }
     }
-    let end = LogEnd::Whole;
+    let end = Ok(());
     Log { end, count, events }
 }

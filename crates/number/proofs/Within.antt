@@ -1,5 +1,6 @@
 -- A number within limits: what `read_within` gives in each case, and what the answers of the code say. Assumes nothing.
 use Prim.Native.Nat.{ℕ, ◌≤◌, ◌<◌}
+use Rattle.std.specs.Prelude.{Result, Ok, Err}
 use mathlib.Core.Path.{◌≡◌, refl, sym, ◌∙◌, ap}
 use mathlib.Core.Bool.{Bool, true, false, ◌&&◌, and-eq-true_iff}
 use mathlib.Core.List.{List}
@@ -11,27 +12,25 @@ use Rattle.refusal.specs.Checked.{Checked, accepted, refused, ◌>>=◌, require
 use Rattle.number.specs.Numbers.{read_number, read_within}
 use Rattle.number.specs.declared.Reading.{Reading}
 use Rattle.number.specs.Answers.{number_read, refusal_of}
-use Rattle.number.specs.declared.NumberRead.{NumberRead}
-use Rattle.number.specs.declared.NumberRead.TheVariants.{Value, Refused}
 use Rattle.refusal.proofs.Checked.{accepted-injective, refused-not-accepted}
 
 -- the code's answer says what was read
-pub number_read-value : (r : Checked Reading) {n : Reading} → Value n ≡ number_read r → r ≡ accepted n
+pub number_read-value : (r : Checked Reading) {n : Reading} → Ok n ≡ number_read r → r ≡ accepted n
 number_read-value (accepted n) e = cc
 number_read-value (refused why) e = cc
 
-pub number_read-refused : (r : Checked Reading) {why : Refusal} → Refused why ≡ number_read r → r ≡ refused why
+pub number_read-refused : (r : Checked Reading) {why : Refusal} → Err why ≡ number_read r → r ≡ refused why
 number_read-refused (accepted n) e = cc
 number_read-refused (refused why) e = cc
 
 -- what a number that was read, and one that was not, say of the check
-pub was_read : (m : Checked Reading) {read : NumberRead} {n : Reading} → read ≡ number_read m → read ≡ Value n
+pub was_read : (m : Checked Reading) {read : Result Reading Refusal} {n : Reading} → read ≡ number_read m → read ≡ Ok n
     → m ≡ accepted n
 was_read m is e = number_read-value m (sym e ∙ is)
 
-pub was-refused : (m : Checked Reading) {read : NumberRead} {why e : Refusal} → read ≡ number_read m → read ≡ Refused why
-    → e ≡ refusal_of read → m ≡ refused e
-was-refused m is w k = number_read-refused m (sym w ∙ is) ∙ ap refused (sym (k ∙ ap refusal_of w))
+pub was-refused : (m : Checked Reading) {read : Result Reading Refusal} {why : Refusal} → read ≡ number_read m → read ≡ Err why
+    → m ≡ refused why
+was-refused m is w = number_read-refused m (sym w ∙ is)
 
 module _ (lo hi : ℕ) (s : List ℕ) (at : ℕ) where
   pub read_within-refused : (why : Refusal) → read_number s at ≡ refused why → read_within lo hi s at ≡ refused why
@@ -74,20 +73,20 @@ module _ (lo hi : ℕ) (s : List ℕ) (at : ℕ) where
       go (refused why) r e = absurd (refused-not-accepted e)
 
   -- The answers of `read_within`, over what `read_number` answered.
-  module _ (first : NumberRead) (is : first ≡ number_read (read_number s at)) where
-    pub answer-refused : {why : Refusal} → first ≡ Refused why → first ≡ number_read (read_within lo hi s at)
+  module _ (first : Result Reading Refusal) (is : first ≡ number_read (read_number s at)) where
+    pub answer-refused : {why : Refusal} → first ≡ Err why → first ≡ number_read (read_within lo hi s at)
     answer-refused {why} e =
         e ∙ sym (ap number_read (read_within-refused why (number_read-refused (read_number s at) (sym e ∙ is))))
 
-    module _ {n : Reading} (e : first ≡ Value n) where
+    module _ {n : Reading} (e : first ≡ Ok n) where
       read : read_number s at ≡ accepted n
       read = number_read-value (read_number s at) (sym e ∙ is)
 
-      pub answer-below : n.value < lo → Refused (OutsideLimits at) ≡ number_read (read_within lo hi s at)
+      pub answer-below : n.value < lo → Err (OutsideLimits at) ≡ number_read (read_within lo hi s at)
       answer-below below = sym (ap number_read (read_within-below read below))
 
-      pub answer-above : lo ≤ n.value → hi < n.value → Refused (OutsideLimits at) ≡ number_read (read_within lo hi s at)
+      pub answer-above : lo ≤ n.value → hi < n.value → Err (OutsideLimits at) ≡ number_read (read_within lo hi s at)
       answer-above low above = sym (ap number_read (read_within-above read low above))
 
-      pub answer-within : lo ≤ n.value → n.value ≤ hi → Value n ≡ number_read (read_within lo hi s at)
+      pub answer-within : lo ≤ n.value → n.value ≤ hi → Ok n ≡ number_read (read_within lo hi s at)
       answer-within low high = sym (ap number_read (read_within-accepted read low high))

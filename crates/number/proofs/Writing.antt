@@ -1,5 +1,6 @@
 -- Writing a number: the three answers, and the number of bytes. Assumes nothing.
 use Prim.Native.Nat.{ℕ, suc, ◌≤◌, ◌<◌}
+use Rattle.std.specs.Prelude.{Result, Ok, Err}
 use native.Mathlib.Omega.{arith}
 use native.Mathlib.Nat.{le_refl}
 use mathlib.Core.Path.{◌≡◌, refl, ap}
@@ -8,11 +9,10 @@ use lib.ListN.{length}
 use borrow.Author.Tests.{le-leb, lt-leb}
 use Rattle.lists.specs.Lists.{over_start}
 use Rattle.refusal.specs.declared.Refusal.TheVariants.{OutsideLimits, ShortOutput}
+use Rattle.refusal.specs.declared.Refusal.{Refusal}
 use Rattle.refusal.specs.Checked.{accepted, refused, written}
 use Rattle.number.specs.Numbers.{largest_number, number_bytes, write_number}
 use Rattle.number.specs.Answers.{number_written}
-use Rattle.number.specs.declared.NumberWritten.{NumberWritten}
-use Rattle.number.specs.declared.NumberWritten.TheVariants.{Written, Refused}
 use Rattle.number.proofs.Groups.{capacity, groups-length-le, groups-length-gt, groups-length-le-more}
 
 module _ (room v : ℕ) where
@@ -33,22 +33,22 @@ module _ (room v : ℕ) where
   write_number-accepted fits enough = rw (le-leb v largest_number fits, le-leb (length (number_bytes v)) room enough)
 
 -- What a writing answers and leaves, over the slice before it.
-abbrev pub Answers : List ℕ → ℕ → NumberWritten → List ℕ → Type 0
+abbrev pub Answers : List ℕ → ℕ → Result ℕ Refusal → List ℕ → Type 0
 Answers out₀ v answer out =
     (answer ≡ number_written (write_number (length out₀) v)) × (out ≡ written (write_number (length out₀) v) out₀)
 
 module _ (out₀ : List ℕ) (v : ℕ) where
-  pub answers-large : largest_number < v → Answers out₀ v (Refused (OutsideLimits 0)) out₀
+  pub answers-large : largest_number < v → Answers out₀ v (Err (OutsideLimits 0)) out₀
   answers-large large = rw (write_number-large (length out₀) v large) (refl, refl)
 
   module _ (need : ℕ) (is : need ≡ length (number_bytes v)) (fits : v ≤ largest_number) where
-    pub answers-short : length out₀ < need → Answers out₀ v (Refused (ShortOutput need)) out₀
+    pub answers-short : length out₀ < need → Answers out₀ v (Err (ShortOutput need)) out₀
     answers-short short =
-        rw (write_number-short (length out₀) v fits (rw is at short)) (ap (λ (n : ℕ). Refused (ShortOutput n)) is, refl)
+        rw (write_number-short (length out₀) v fits (rw is at short)) (ap (λ (n : ℕ). Err (ShortOutput n)) is, refl)
 
     pub answers-written : (out : List ℕ) → need ≤ length out₀
-        → out ≡ over_start (number_bytes v) out₀ → Answers out₀ v (Written need) out
-    answers-written out enough e = rw (write_number-accepted (length out₀) v fits (rw is at enough)) (ap Written is, e)
+        → out ≡ over_start (number_bytes v) out₀ → Answers out₀ v (Ok need) out
+    answers-written out enough e = rw (write_number-accepted (length out₀) v fits (rw is at enough)) (ap Ok is, e)
 
 -- the number of bytes: n groups hold fewer than v, n + 1 hold v
 pub number_bytes-length : (n v : ℕ) → n ≤ 3 → capacity n ≤ v → v < capacity (suc n) → length (number_bytes v) ≡ suc n

@@ -9,17 +9,3 @@ pub struct Reading {
     pub value: usize,
     pub next: usize,
 }
-
-// What reading a number gives: its value with the next place, or the refusal.
-#[derive(Clone, Copy)]
-pub enum NumberRead {
-    Value(Reading),
-    Refused(Refusal),
-}
-
-// What writing a number gives: how many bytes were written, or the refusal.
-#[derive(Clone, Copy)]
-pub enum NumberWritten {
-    Written(usize),
-    Refused(Refusal),
-}

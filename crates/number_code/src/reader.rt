@@ -3,11 +3,11 @@ ghost use Rattle.std.specs.Prelude.{◌≡◌};
 ghost use Rattle.number.specs.Numbers.{read_number};
 ghost use Rattle.number.specs.Answers.{number_read};
 
-use number::{NumberRead, Reading};
+use number::Reading;
 use refusal::Refusal;
 
 // The number that starts at `at`, in any form of it, with the place after it; or refusal 1 or 2.
-pub fn read_number(bytes: &[u8], at: usize) -> NumberRead
+pub fn read_number(bytes: &[u8], at: usize) -> Result<Reading, Refusal>
     ensures { result ≡ number_read (read_number bytes.now at) }
 {
     let mut left: usize = 4;
@@ -16,11 +16,11 @@ pub fn read_number(bytes: &[u8], at: usize) -> NumberRead
     let mut sum: usize = 0;
     while 0 < left {
         if bytes.len() <= place {
-            return NumberRead::Refused(Refusal::Ended(bytes.len()));
+            return Err(Refusal::Ended(bytes.len()));
         }
         let byte = bytes[place] as usize;
         if byte < 128 {
-            return NumberRead::Value(Reading {
+            return Ok(Reading {
                 value: sum + weight * byte,
                 next: place + 1,
             });
@@ -30,5 +30,5 @@ pub fn read_number(bytes: &[u8], at: usize) -> NumberRead
         place += 1;
         left -= 1;
     }
-    NumberRead::Refused(Refusal::Malformed(at))
+    Err(Refusal::Malformed(at))
 }

@@ -3,8 +3,6 @@ ghost use Rattle.std.specs.Prelude.{◌≡◌, ◌+◌, ◌≤◌, ◌++◌, len
 ghost use Rattle.lists.specs.Lists.{All, over_start};
 ghost use Rattle.number.specs.Numbers.{largest_number, number_bytes, forms_of};
 
-use number::NumberWritten;
-
 // Writes `v` at place `at`. Returns the place after it.
 fn put_number(out: &mut [u8], at: usize, v: usize) -> usize
     requires v_le_largest_number { v ≤ largest_number }
@@ -13,13 +11,14 @@ fn put_number(out: &mut [u8], at: usize, v: usize) -> usize
         × (out.new ≡ take at out.old ++ over_start (number_bytes v) (drop at out.old)) }
 {
     let written = crate::writer::write_number(&mut out[at..], v);
-    let NumberWritten::Written(length) = written else {
+    let Ok(length) = written else {
         return at;
     };
     at + length
 }
 
 // Writes the numbers' shortest forms one after another to the start of `out`. Returns how many bytes they take.
+#[tactic(auto, using(crate::proofs::numbers::Putting::numbers_none, crate::proofs::numbers::Putting::number_fits, crate::proofs::numbers::Putting::numbers_all))]
 pub fn write_numbers(out: &mut [u8], numbers: &[usize]) -> usize
     requires all { All (λ v. v ≤ largest_number) numbers.now }
     requires numbers_in_bounds { length (forms_of numbers.now) ≤ length out.old }
@@ -27,10 +26,8 @@ pub fn write_numbers(out: &mut [u8], numbers: &[usize]) -> usize
         × (out.new ≡ over_start (forms_of numbers.now) out.old) }
 {
     let mut at: usize = 0;
-    let mut i: usize = 0;
-    while i < numbers.len() {
-        at = put_number(out, at, numbers[i]);
-        i += 1;
+    for v in numbers {
+        at = put_number(out, at, *v);
     }
     at
 }

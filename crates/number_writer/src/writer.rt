@@ -4,7 +4,6 @@ ghost use Rattle.refusal.specs.Checked.{written};
 ghost use Rattle.number.specs.Numbers.{number_bytes, write_number};
 ghost use Rattle.number.specs.Answers.{number_written};
 
-use number::NumberWritten;
 use refusal::Refusal;
 
 // How many groups hold `v`, four at most.
@@ -24,24 +23,25 @@ fn form_length(v: usize) -> usize
 }
 
 // How many bytes the shortest form of `v` has, now at the start of `out`; or refusal 4 or 11, with `out` unchanged.
-pub fn write_number(out: &mut [u8], v: usize) -> NumberWritten
+pub fn write_number(out: &mut [u8], v: usize) -> Result<usize, Refusal>
     ensures { (result ≡ number_written (write_number (length out.old) v))
         × (out.new ≡ written (write_number (length out.old) v) out.old) }
 {
     if 268_435_455 < v {
-        return NumberWritten::Refused(Refusal::OutsideLimits(0));
+        return Err(Refusal::OutsideLimits(0));
     }
     let need = form_length(v);
     if out.len() < need {
-        return NumberWritten::Refused(Refusal::ShortOutput(need));
+        return Err(Refusal::ShortOutput(need));
     }
     let mut rest = v;
     let mut i: usize = 0;
+    // A while loop: it ends with the number, and not at a place.
     while 128 <= rest {
         out[i] = (128 + rest % 128) as u8;
         rest /= 128;
         i += 1;
     }
     out[i] = rest as u8;
-    NumberWritten::Written(need)
+    Ok(need)
 }

@@ -8,7 +8,7 @@ ghost use Rattle.planner.specs.Answers.{plan_answer, PlanDone};
 ghost use Rattle.operators.specs.Operators.{grant as grant_of, wish_taken, plan_operator};
 
 use operators::SharedOrder;
-use planner::{PlanAnswer, PlanResult};
+use planner::PlanResult;
 use refusal::Refusal;
 
 // Whether a wish is 1 to 4,096.
@@ -22,13 +22,14 @@ fn is_taken(wish: usize) -> bool
 }
 
 // What an operator is granted who wants `wish` records while the other wants `other`.
+#[tactic(auto, unfolding(operators::specs::Operators::grant))]
 fn grant(wish: usize, other: usize) -> usize
     requires wish_bound { wish ≤ 4_096 }
     requires other_bound { other ≤ 4_096 }
     ensures { result ≡ grant_of wish other }
 {
     let left = 4096 - other;
-    minmax::smaller(wish, minmax::larger(2048, left))
+    wish.min(left.max(2048))
 }
 
 // The answer that refuses with 14.
@@ -36,7 +37,7 @@ fn refuse() -> PlanResult
     ensures { result ≡ plan_answer (refused BadWish) }
 {
     PlanResult {
-        answer: PlanAnswer::Refused(Refusal::BadWish),
+        answer: Err(Refusal::BadWish),
         counts: [0; 5],
     }
 }

@@ -12,18 +12,11 @@ pub struct PackHead {
     pub first: usize,
 }
 
-// What checking a pack gives: its numbers, or the refusal.
-#[derive(Clone, Copy)]
-pub enum PackAnswer {
-    Accepted(PackHead),
-    Refused(Refusal),
-}
-
 // The answer, with mu and m of each layer below r, and the nodes out of service; entries from r on are 0. Beside a refusal all
 // are 0, and the list is empty.
 #[derive(Clone, Copy)]
 pub struct PackCheck {
-    pub answer: PackAnswer,
+    pub answer: Result<PackHead, Refusal>,
     pub layers: [LayerHead; 5],
     pub dark: Dark,
 }

@@ -7,15 +7,15 @@ ghost use Rattle.pack.specs.Pack.{read_pack};
 ghost use Rattle.pack.specs.Answers.{pack_checked};
 
 use layers::{Dark, FileKind, LayerHead, LayerLimits};
-use pack::{PackAnswer, PackCheck, PackHead};
-use refusal::{Refusal, Verdict};
+use pack::{PackCheck, PackHead};
+use refusal::Refusal;
 
 // The answer that refuses.
 fn refuse(e: Refusal) -> PackCheck
     ensures { result ≡ pack_checked (refused e) }
 {
     PackCheck {
-        answer: PackAnswer::Refused(e),
+        answer: Err(e),
         layers: [LayerHead { bound: 0, size: 0 }; 5],
         dark: Dark {
             count: 0,
@@ -31,11 +31,10 @@ fn refuse(e: Refusal) -> PackCheck
 pub fn check_pack(bytes: &[u8]) -> PackCheck
     ensures { result ≡ pack_checked (read_pack bytes.now) }
 {
-    let head = layers_base::read_base(bytes, FileKind::Pack);
-    let head_verdict = head.verdict;
-    if let Verdict::Refused(e) = head_verdict {
-        return refuse(e);
-    }
+    let head = match layers_base::read_base(bytes, FileKind::Pack) {
+        Ok(head) => head,
+        Err(e) => return refuse(e),
+    };
     let base = head.base;
     let n = base.n;
     let r = base.r;
@@ -44,21 +43,20 @@ pub fn check_pack(bytes: &[u8]) -> PackCheck
         hi: 4_096,
         full: false,
     };
-    let numbers = layers_reader::read_layers(bytes, head.next, r, 4_096, limits);
-    let numbers_verdict = numbers.verdict;
-    if let Verdict::Refused(e) = numbers_verdict {
-        return refuse(e);
-    }
+    let numbers = match layers_reader::read_layers(bytes, head.next, r, 4_096, limits) {
+        Ok(numbers) => numbers,
+        Err(e) => return refuse(e),
+    };
     let layers = numbers.heads;
     let first = numbers.next;
     let rows = layers_code::check_rows(bytes, first, base, r, layers);
     let rows_verdict = rows.verdict;
-    if let Verdict::Refused(e) = rows_verdict {
+    if let Err(e) = rows_verdict {
         return refuse(e);
     }
     let dark = base.dark;
     PackCheck {
-        answer: PackAnswer::Accepted(PackHead { n, r, first }),
+        answer: Ok(PackHead { n, r, first }),
         layers,
         dark,
     }

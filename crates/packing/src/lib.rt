@@ -8,10 +8,3 @@ pub struct Node(pub u8);
 // A record's number, counted in the order of the rows.
 #[derive(Clone, Copy)]
 pub struct Record(pub usize);
-
-// The first row that a test finds, or none.
-#[derive(Clone, Copy)]
-pub enum RowFound {
-    At(Record),
-    Nothing,
-}

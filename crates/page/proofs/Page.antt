@@ -1,5 +1,6 @@
 -- The page from the answer of the placement's check: its length, its lines, and what is left in the lent slice. Assumes nothing.
 use Prim.Native.Nat.{ℕ, ◌+◌, ◌*◌, ◌-◌, ◌≤◌, ◌<◌}
+use Rattle.std.specs.Prelude.{Ok, Err}
 use native.Mathlib.Omega.{arith}
 use mathlib.Core.Path.{◌≡◌, refl, sym, ◌∙◌, ap, subst}
 use mathlib.Core.List.{List, [], ◌++◌, append_assoc}
@@ -14,7 +15,6 @@ use Rattle.lists.proofs.UpTo.{get_d-map-up_to, map-up_to-congr}
 use Rattle.lists.proofs.Stores.{sets-start}
 use Rattle.refusal.specs.declared.Refusal.{Refusal}
 use Rattle.refusal.specs.declared.Refusal.TheVariants.{ShortOutput}
-use Rattle.refusal.specs.declared.Writing.TheVariants.{Written, Refused}
 use Rattle.refusal.specs.Checked.{accepted, refused, WritingDone}
 use Rattle.packing.specs.Rows.{Row, ascending, record_at}
 use Rattle.packing.proofs.Failed.{rows_at-records}
@@ -26,7 +26,6 @@ use Rattle.placement.specs.Placement.{Placement, GoodPlacement, read_placement, 
 use Rattle.placement.specs.Answers.{placement_head, placement_checked}
 use Rattle.placement.specs.declared.PlacementHead.{PlacementHead}
 use Rattle.placement.specs.declared.PlacementCheck.{PlacementCheck}
-use Rattle.placement.specs.declared.PlacementAnswer.TheVariants.{Accepted, Refused as NotAccepted}
 use Rattle.placement.proofs.Losses.{figure_of-le}
 use Rattle.placement.proofs.Answered.{check-refused, check-accepted}
 use Rattle.placement.proofs.Rows.{RowsIn, rows_in}
@@ -99,7 +98,7 @@ module _ (p : Placement) (good : GoodPlacement p) where
 module _ (bytes : List ℕ) (head : PlacementHead) (layers : List LayerHead) (out : List ℕ) where
   -- too short an output is refused, and is as it was
   pub page-refused : length out < page_length head.b
-      → WritingDone (page_from bytes head layers (length out)) out out (Refused (ShortOutput (page_length head.b)))
+      → WritingDone (page_from bytes head layers (length out)) out out (Err (ShortOutput (page_length head.b)))
   unfolding page_from
   page-refused short =
       rw (lt-leb (page_length head.b) (length out) short) (record { answer = refl; output-after = refl })
@@ -117,7 +116,7 @@ module _ (bytes : List ℕ) (head : PlacementHead) (layers : List LayerHead) (ou
     -- the page stands at the start of any other, which is else as it was
     pub page-written : {left : List ℕ} → page_length head.b ≤ length out
         → left ≡ sets out 0 (lines_at bytes head.first head.r head.b layers ++ last_line head.figure head.b)
-        → WritingDone (page_from bytes head layers (length out)) out left (Written (page_length head.b))
+        → WritingDone (page_from bytes head layers (length out)) out left (Ok (page_length head.b))
     unfolding page_from
     page-written enough is =
         let lines = lines_at bytes head.first head.r head.b layers in
@@ -130,7 +129,7 @@ module _ (bytes : List ℕ) (head : PlacementHead) (layers : List LayerHead) (ou
           length-last_line head.figure head.b (omega (arith, asked.b-most, asked.figure-most)) (omega (arith, asked.b-most)),
         ) in
         rw (le-leb (page_length head.b) (length out) enough)
-        (record { answer = ap Written (sym size); output-after = is ∙ sets-start out (lines ++ last) (omega arith) })
+        (record { answer = ap Ok (sym size); output-after = is ∙ sets-start out (lines ++ last) (omega arith) })
 
 -- the code's part of the bytes is the record
 pub record-part : (bytes : List ℕ) (first r i : ℕ)
@@ -207,17 +206,17 @@ asked-as bytes e f asked = rw (e, f) asked
 
 -- what the answer of the check says
 module _ (bytes : List ℕ) {check : PlacementCheck} (is : check ≡ placement_checked (read_placement bytes)) where
-  pub page-asked : {head : PlacementHead} → check.answer ≡ Accepted head → PageAsked bytes head check.layers
+  pub page-asked : {head : PlacementHead} → check.answer ≡ Ok head → PageAsked bytes head check.layers
   page-asked {head} a =
       let o = check-accepted (read_placement bytes) is a in
       asked-as bytes o.head-is o.layers-are (asked bytes o.file o.is-accepted)
 
-  pub page-of-check : {head : PlacementHead} → check.answer ≡ Accepted head
+  pub page-of-check : {head : PlacementHead} → check.answer ≡ Ok head
       → (output : ℕ) → check_page bytes output ≡ page_from bytes head check.layers output
   page-of-check {head} a output =
       let o = check-accepted (read_placement bytes) is a in
       same-page bytes o.file o.is-accepted output ∙ sym (λ i. page_from bytes (o.head-is i) (o.layers-are i) output)
 
-  pub page-of-refused : {why : Refusal} → check.answer ≡ NotAccepted why → (output : ℕ) → check_page bytes output ≡ refused why
+  pub page-of-refused : {why : Refusal} → check.answer ≡ Err why → (output : ℕ) → check_page bytes output ≡ refused why
   unfolding check_page check_placement
   page-of-refused a output = rw (check-refused (read_placement bytes) is a)

@@ -1,10 +1,9 @@
 -- The stores of fields and lines, one after another, make the whole. Assumes nothing.
-use Prim.Native.Nat.{ℕ, zero, suc, ◌+◌, ◌/◌, ◌%◌, ◌≤◌, ◌<◌}
+use Prim.Native.Nat.{ℕ, suc, ◌+◌, ◌/◌, ◌%◌, ◌≤◌, ◌<◌}
 use native.Mathlib.Omega.{arith}
-use native.Mathlib.Numerals.{add-one}
-use mathlib.Core.Path.{◌≡◌, refl, sym, ◌∙◌, ap}
+use mathlib.Core.Path.{◌≡◌, refl, ◌∙◌}
 use mathlib.Core.List.{List, [], ◌∷◌, ◌++◌}
-use lib.ListN.{length, get_or, set, length-append, length-replicate}
+use lib.ListN.{length, get_or, set, length-append}
 use lib.Seq.{sets}
 use borrow.Author.Tests.{lt-ltb, le-ltb}
 use Rattle.page.specs.Field.{newline, digit, blanks, field}
@@ -14,33 +13,7 @@ use Rattle.page.proofs.Fields.{field-characters, length-field}
 use Rattle.page.proofs.Joined.{sets-after}
 use Rattle.page.proofs.Lines.{Fit, length-node_fields, last-parts}
 
-blanks-snoc : (n : ℕ) → blanks n ++ (32 ∷ []) ≡ blanks (suc n)
-blanks-snoc zero = refl
-blanks-snoc (suc n) = ap (λ (l : List ℕ). 32 ∷ l) (blanks-snoc n)
-
 module _ (out : List ℕ) (at : ℕ) where
-  -- one blank more
-  pub blanks-next : {left : List ℕ} (i : ℕ) → left ≡ sets out at (blanks i) → set left (at + i) 32 ≡ sets out at (blanks (i + 1))
-  blanks-next i e =
-      rw (e, add-one i, ← blanks-snoc i)
-      (sets-after out at (at + i) (blanks i) (32 ∷ []) (ap (λ n. at + n) (sym (length-replicate i 32))))
-
-  -- the stores of `kept ` and ` of `
-  pub kept-stored : set (set (set (set (set out at 107) (at + 1) 101) (at + 2) 112) (at + 3) 116) (at + 4) 32 ≡ sets out at kept_word
-  kept-stored =
-      let e : at + 1 ≡ suc at = omega arith in
-      let f : at + 2 ≡ suc (suc at) = omega arith in
-      let g : at + 3 ≡ suc (suc (suc at)) = omega arith in
-      let h : at + 4 ≡ suc (suc (suc (suc at))) = omega arith in
-      rw (e, f, g, h) refl
-
-  pub of-stored : set (set (set (set out at 32) (at + 1) 111) (at + 2) 102) (at + 3) 32 ≡ sets out at of_word
-  of-stored =
-      let e : at + 1 ≡ suc at = omega arith in
-      let f : at + 2 ≡ suc (suc at) = omega arith in
-      let g : at + 3 ≡ suc (suc (suc at)) = omega arith in
-      rw (e, f, g) refl
-
   -- a field's four stores
   pub field_stored : (v : ℕ) {a b c : ℕ} → v < 10_000
       → a ≡ lead (v / 10 / 10 / 10) → b ≡ lead (v / 10 / 10) → c ≡ lead (v / 10)

@@ -9,8 +9,8 @@ ghost use Rattle.page.specs.Asked.{PageAsked, lines_at, page_from};
 
 use layers::LayerHead;
 use packing::Record;
-use placement::{PlacementAnswer, PlacementHead};
-use refusal::{Refusal, Writing};
+use placement::PlacementHead;
+use refusal::Refusal;
 
 // The layer of a record: the one among whose rows it is.
 fn layer_of(layers: [LayerHead; 5], number: Record) -> usize
@@ -18,16 +18,13 @@ fn layer_of(layers: [LayerHead; 5], number: Record) -> usize
     ensures { (result ≡ layer_of 0 layers number.0) × (result ≤ 5) }
 {
     let mut left = number.0;
-    let mut x: usize = 0;
-    while x < 5 {
-        let size = layers[x].size;
-        if left < size {
+    for (x, layer) in layers.iter().enumerate() {
+        if left < layer.size {
             return x;
         }
-        left -= size;
-        x += 1;
+        left -= layer.size;
     }
-    x
+    layers.len()
 }
 
 // The lines of the b records whose rows are in the bytes, at the start of `out`.
@@ -40,13 +37,11 @@ fn write_lines(bytes: &[u8], head: PlacementHead, layers: [LayerHead; 5], out: &
     let b = head.b;
     let mut fields = [0u8; 1024];
     page_lines::put_fields(&mut fields);
-    let mut i: usize = 0;
-    while i < b {
+    for i in 0..b {
         let number = Record(i);
         let layer = layer_of(layers, number);
         let from = first + i * r;
         page_lines::put_record_line(out, 27 * i, number, layer, &fields, &bytes[from..from + r]);
-        i += 1;
     }
 }
 
@@ -56,7 +51,7 @@ fn write_accepted(
     head: PlacementHead,
     layers: [LayerHead; 5],
     out: &mut [u8],
-) -> Writing
+) -> Result<usize, Refusal>
     requires { PageAsked bytes.now head layers }
     ensures { WritingDone (page_from bytes.now head layers (length out.old)) out.old out.new result }
 {
@@ -64,25 +59,21 @@ fn write_accepted(
     let figure = head.figure;
     let needed = 27 * (b + 1);
     if out.len() < needed {
-        return Writing::Refused(Refusal::ShortOutput(needed));
+        return Err(Refusal::ShortOutput(needed));
     }
     write_lines(bytes, head, layers, out);
     page_lines::put_last_line(out, 27 * b, figure, b);
-    Writing::Written(needed)
+    Ok(needed)
 }
 
 // Checks a placement and puts its page at the start of `out`; answers the bytes written, 27 × (b+1). Refuses as
 // `check_placement` does, then 11 where `out` is shorter.
 //
 // Every line has 26 characters and a newline, and names its record, its layer and its nodes: `m-page` in `promises`.
-pub fn page(bytes: &[u8], out: &mut [u8]) -> Writing
+pub fn page(bytes: &[u8], out: &mut [u8]) -> Result<usize, Refusal>
     ensures { WritingDone (check_page bytes.now (length out.old)) out.old out.new result }
 {
     let check = placement_code::check_placement(bytes);
-    let answer = check.answer;
-    let layers = check.layers;
-    match answer {
-        PlacementAnswer::Refused(e) => Writing::Refused(e),
-        PlacementAnswer::Accepted(head) => write_accepted(bytes, head, layers, out),
-    }
+    let head = check.answer?;
+    write_accepted(bytes, head, check.layers, out)
 }

@@ -1,1 +1,2 @@
 pub mod ByteFields
+pub mod Part

@@ -44,11 +44,17 @@ pub fn put_fields(fields: &mut [u8])
     requires { length fields.old ≡ 1024 }
     ensures { fields.new ≡ byte_fields }
 {
-    let mut v: usize = 0;
-    while v < 256 {
+    for v in 0..256 {
         put_right(fields, 4 * v, v);
-        v += 1;
     }
+}
+
+// Puts a text from `at` on.
+pub(crate) fn put_text(out: &mut [u8], at: usize, text: &[u8])
+    requires { at + length text.now ≤ length out.old }
+    ensures { out.new ≡ sets out.old at text.now }
+{
+    out[at..at + text.len()].copy_from_slice(text);
 }
 
 // The field of a node's number, from `fields`.
@@ -56,16 +62,8 @@ pub(crate) fn put_node(out: &mut [u8], at: usize, fields: &[u8], node: Node)
     requires { (at + 4 ≤ length out.old) × (fields.now ≡ byte_fields) }
     ensures { out.new ≡ sets out.old at (field node.0) }
 {
-    let v = node.0;
-    let from = 4 * v as usize;
-    let first = fields[from];
-    let second = fields[from + 1];
-    let third = fields[from + 2];
-    let fourth = fields[from + 3];
-    out[at] = first;
-    out[at + 1] = second;
-    out[at + 2] = third;
-    out[at + 3] = fourth;
+    let from = 4 * usize::from(node.0);
+    put_text(out, at, &fields[from..from + 4]);
 }
 
 // The field of how many there are.
@@ -81,9 +79,5 @@ pub(crate) fn put_blanks(out: &mut [u8], at: usize, count: usize)
     requires { at + count ≤ length out.old }
     ensures { out.new ≡ sets out.old at (blanks count) }
 {
-    let mut i: usize = 0;
-    while i < count {
-        out[at + i] = b' ';
-        i += 1;
-    }
+    out[at..at + count].fill(b' ');
 }

@@ -1,5 +1,6 @@
 -- What the code's answers say of reading s, k, b and F, and of checking a placement. Assumes nothing.
 use Prim.Native.Nat.{ℕ, ◌≤◌}
+use Rattle.std.specs.Prelude.{Result, Ok, Err}
 use native.Mathlib.Omega.{arith}
 use mathlib.Core.Path.{◌≡◌, refl, ◌∙◌, ap}
 use mathlib.Core.List.{List, ◌++◌}
@@ -9,8 +10,8 @@ use lib.Seq.{take-take, take-append-le, take_all}
 use borrow.Author.Tests.{ne_eqb}
 use Rattle.refusal.specs.declared.Refusal.{Refusal}
 use Rattle.refusal.specs.Refusals.{result}
-use Rattle.refusal.specs.declared.Verdict.TheVariants.{Good, Refused}
 use Rattle.refusal.specs.Checked.{Checked, accepted, refused}
+use Rattle.refusal.proofs.Answered.{answered-ok}
 use Rattle.layers.specs.Layers.{Located, heads_of}
 use Rattle.layers.specs.Answers.{five_heads, nodes_array}
 use Rattle.layers.proofs.Listing.{dark-count, dark_list-dark_of}
@@ -21,22 +22,14 @@ use Rattle.placement.specs.Answers.{table_of, table_values, terms_read, placemen
 use Rattle.placement.specs.declared.TermsRead.{TermsRead}
 use Rattle.placement.specs.declared.PlacementHead.{PlacementHead}
 use Rattle.placement.specs.declared.PlacementCheck.{PlacementCheck}
-use Rattle.placement.specs.declared.PlacementAnswer.TheVariants.{Accepted, Refused as NotAccepted}
 
-pub terms-refused : (m : Checked TermsReading) {read : TermsRead} {e : Refusal} → read ≡ terms_read m
-    → read.verdict ≡ Refused e → m ≡ refused e
-terms-refused (accepted b) is why = let v = ap (λ r. r.verdict) is in cc
-terms-refused (refused e) is why = let v = ap (λ r. r.verdict) is in cc
-
-pub terms-good : (m : Checked TermsReading) {read : TermsRead} → read ≡ terms_read m → read.verdict ≡ Good
-    → m ≡ accepted (record { terms = read.terms; next = read.next })
-terms-good (accepted b) is good = rw is refl
-terms-good (refused e) is good =
-    absurd (let v = ap (λ r. r.verdict) is in let z : ◌≡◌ {A = ℕ} 0 1 = cc in omega arith)
+pub terms-good : (m : Checked TermsReading) {given : Result TermsRead Refusal} {read : TermsRead} → given ≡ terms_read m
+    → given ≡ Ok read → m ≡ accepted (record { terms = read.terms; next = read.next })
+terms-good m is good = let (order, r, a) = answered-ok _ m is good in rw a r
 
 -- the check's answer refuses where the file is refused
 pub check-refused : (m : Checked (Located Placement)) {check : PlacementCheck} {e : Refusal} → check ≡ placement_checked m
-    → check.answer ≡ NotAccepted e → m ≡ refused e
+    → check.answer ≡ Err e → m ≡ refused e
 check-refused (accepted file) is why = let v = ap (λ c. c.answer) is in cc
 check-refused (refused e) is why = let v = ap (λ c. c.answer) is in cc
 
@@ -73,7 +66,7 @@ pub record AnswerOf (m : Checked (Located Placement)) (check : PlacementCheck) (
   pub feeders-are : check.feeders ≡ table_of file.content.feeders
 
 pub check-accepted : (m : Checked (Located Placement)) {check : PlacementCheck} {head : PlacementHead} → check ≡ placement_checked m
-    → check.answer ≡ Accepted head → AnswerOf m check head
+    → check.answer ≡ Ok head → AnswerOf m check head
 check-accepted (accepted file) is good =
     let v = ap (λ c. c.answer) is in
     record { file = file; is-accepted = refl; head-is = cc; layers-are = ap (λ c. c.layers) is; feeders-are = ap (λ c. c.feeders) is }

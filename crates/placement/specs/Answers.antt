@@ -1,10 +1,9 @@
 -- The answers of reading and checking a placement as values of the code's types, and what each case says. Assumes nothing.
-use Rattle.std.specs.Prelude.{ℕ, cond, length, take, get_or, eqb}
+use Rattle.std.specs.Prelude.{ℕ, cond, length, take, get_or, eqb, Result, Ok, Err}
 use mathlib.Core.List.{List, [], ◌∷◌, ◌++◌, map, flatten}
 use Rattle.std.proofs.Math.Option.{Option, none, some}
 use Rattle.refusal.specs.Refusals.{Outcome, result, refusal_outcome}
-use Rattle.refusal.specs.declared.Verdict.TheVariants.{Good, Refused as Bad}
-use Rattle.refusal.specs.Checked.{Checked, accepted, refused}
+use Rattle.refusal.specs.Checked.{Checked, accepted, refused, answered}
 use Rattle.packing.specs.Rows.{rows_at}
 use Rattle.layers.specs.Layers.{Located, heads_of, head_numbers}
 use Rattle.layers.specs.declared.LayerHead.{LayerHead}
@@ -14,17 +13,13 @@ use Rattle.placement.specs.Feeders.{Feeders, FeedersReading, ordered, feeder_num
 use Rattle.placement.specs.Placement.{Placement, TermsReading, Rows}
 use Rattle.placement.specs.declared.FeederTable.{FeederTable}
 use Rattle.placement.specs.declared.FeedersRead.{FeedersRead}
-use Rattle.placement.specs.declared.RecordsCheck.{RecordsCheck}
 use Rattle.placement.specs.declared.TermsRead.{TermsRead}
 use Rattle.placement.specs.declared.PlacementHead.{PlacementHead}
-use Rattle.placement.specs.declared.PlacementAnswer.{PlacementAnswer}
-use Rattle.placement.specs.declared.PlacementAnswer.TheVariants.{Accepted, Refused}
 use Rattle.placement.specs.declared.PlacementCheck.{PlacementCheck}
+use Rattle.refusal.specs.declared.Refusal.{Refusal}
 
-abbrev pub terms_read : Checked TermsReading → TermsRead
-terms_read (accepted order) = record { verdict = Good; terms = order.terms; next = order.next }
-terms_read (refused e) =
-    record { verdict = Bad e; terms = record { s = 0; k = 0; b = 0; figure = 0; place = 0 }; next = 0 }
+abbrev pub terms_read : Checked TermsReading → Result TermsRead Refusal
+terms_read = answered (λ order. record { terms = order.terms; next = order.next })
 
 -- the feeders as the code has them: 0 of them where there are none
 abbrev pub table_of : Option Feeders → FeederTable
@@ -46,13 +41,11 @@ rows_by_table each r b rows = flatten (map (row_by_table each) (rows_at r b rows
 abbrev pub table_values : (n : ℕ) → FeederTable → List ℕ
 table_values n table = cond (eqb table.number 0) [] (table.number ∷ take n table.each)
 
-abbrev pub feeders_read : Checked FeedersReading → FeedersRead
-feeders_read (accepted after) = record { verdict = Good; table = table_of after.feeders; next = after.next }
-feeders_read (refused e) = record { verdict = Bad e; table = table_of none; next = 0 }
+abbrev pub feeders_read : Checked FeedersReading → Result FeedersRead Refusal
+feeders_read = answered (λ after. record { table = table_of after.feeders; next = after.next })
 
-abbrev pub records_check : Checked Rows → RecordsCheck
-records_check (accepted rows) = record { verdict = Good; table = table_of rows.feeders }
-records_check (refused e) = record { verdict = Bad e; table = table_of none }
+abbrev pub records_check : Checked Rows → Result FeederTable Refusal
+records_check = answered (λ rows. table_of rows.feeders)
 
 -- the numbers of an accepted placement
 abbrev pub placement_head : Located Placement → PlacementHead
@@ -72,13 +65,13 @@ placement_head file =
 abbrev pub placement_checked : Checked (Located Placement) → PlacementCheck
 placement_checked (accepted file) =
     record {
-      answer = Accepted (placement_head file);
+      answer = Ok (placement_head file);
       layers = five_heads (heads_of file.content.layers);
       dark = dark_of file.content.dark;
       feeders = table_of file.content.feeders;
     }
 placement_checked (refused e) =
-    record { answer = Refused e; layers = five_heads []; dark = dark_of []; feeders = table_of none }
+    record { answer = Err e; layers = five_heads []; dark = dark_of []; feeders = table_of none }
 
 -- an accepted placement's values: its kind, n, r, s, k, b, F, the place of its first row, lambda and c of each of five layers, 0
 -- and 0 from s on, how many nodes are out of service, and these; in kind 6 then g, and the feeder of each node
@@ -92,9 +85,9 @@ placement_values file =
     (length file.content.dark ∷ file.content.dark) (feeder_numbers file.content.feeders)
 
 -- what the answer says, with the layers, the list and the feeders beside it
-abbrev pub placement_says : PlacementAnswer → List LayerHead → Dark → FeederTable → Outcome
-placement_says (Accepted head) layers dark feeders = result (head_values head layers (dark_values dark) (table_values head.n feeders))
-placement_says (Refused e) layers dark feeders = refusal_outcome e
+abbrev pub placement_says : Result PlacementHead Refusal → List LayerHead → Dark → FeederTable → Outcome
+placement_says (Ok head) layers dark feeders = result (head_values head layers (dark_values dark) (table_values head.n feeders))
+placement_says (Err e) layers dark feeders = refusal_outcome e
 
 abbrev pub placement_outcome : PlacementCheck → Outcome
 placement_outcome check = placement_says check.answer check.layers check.dark check.feeders

@@ -2,7 +2,7 @@
 #![tactic(auto)]
 
 use layers::{Dark, LayerHead};
-use refusal::{Refusal, Verdict};
+use refusal::Refusal;
 
 // The rule of a layer's loss: one floor of document 01, or the nested floors of request (d).
 #[derive(Clone, Copy)]
@@ -29,10 +29,9 @@ pub struct Terms {
     pub place: usize,
 }
 
-// What reading these numbers gives, with the next place; all numbers are 0 beside a refusal.
+// What reading these numbers gives, with the next place.
 #[derive(Clone, Copy)]
 pub struct TermsRead {
-    pub verdict: Verdict,
     pub terms: Terms,
     pub next: usize,
 }
@@ -58,33 +57,18 @@ pub struct FeederTable {
     pub each: [u8; 255],
 }
 
-// What reading them gives, with the next place; all numbers are 0 beside a refusal.
+// What reading them gives, with the next place.
 #[derive(Clone, Copy)]
 pub struct FeedersRead {
-    pub verdict: Verdict,
     pub table: FeederTable,
     pub next: usize,
-}
-
-// What checking a placement gives: its numbers, or the refusal.
-#[derive(Clone, Copy)]
-pub enum PlacementAnswer {
-    Accepted(PlacementHead),
-    Refused(Refusal),
-}
-
-// What checking the rows gives: good, with the feeders, or the refusal with none.
-#[derive(Clone, Copy)]
-pub struct RecordsCheck {
-    pub verdict: Verdict,
-    pub table: FeederTable,
 }
 
 // The answer, with lambda and c of each layer below s, the nodes out of service, and the feeders; entries from s on are 0. Beside a
 // refusal all are 0, and there is no node in the list and no feeder.
 #[derive(Clone, Copy)]
 pub struct PlacementCheck {
-    pub answer: PlacementAnswer,
+    pub answer: Result<PlacementHead, Refusal>,
     pub layers: [LayerHead; 5],
     pub dark: Dark,
     pub feeders: FeederTable,

@@ -1,5 +1,6 @@
 -- The cases of checking a placement, step by step, and what the steps ask of each other. Assumes nothing.
 use Prim.Native.Nat.{ℕ, ◌≤◌}
+use Rattle.std.specs.Prelude.{Result, Ok, IsOk}
 use native.Mathlib.Omega.{arith}
 use mathlib.Core.Path.{◌≡◌, refl, ◌∙◌, ap, subst}
 use mathlib.Core.Bool.{true}
@@ -10,11 +11,10 @@ use Rattle.lists.specs.Lists.{All}
 use Rattle.lists.proofs.Alls.{all-imp}
 use Rattle.refusal.specs.declared.Refusal.{Refusal}
 use Rattle.refusal.specs.declared.Refusal.TheVariants.{WrongFigure}
-use Rattle.refusal.specs.declared.Verdict.TheVariants.{Good, Refused as NotGood}
-use Rattle.refusal.specs.Checked.{Checked, accepted, refused}
+use Rattle.refusal.specs.Checked.{accepted, refused}
 use Rattle.layers.specs.Layers.{BaseReading, BaseLimits, sizes, heads_of, head_numbers, read_base, read_layers}
 use Rattle.layers.specs.declared.FileKind.TheVariants.{Placement as PlacementKind}
-use Rattle.layers.specs.Answers.{dark_of, site_of, DarkFits}
+use Rattle.layers.specs.Answers.{dark_of, site_of, DarkFits, layers_read}
 use Rattle.layers.specs.declared.Base.{Base}
 use Rattle.layers.specs.declared.Dark.{Dark}
 use Rattle.layers.specs.declared.LayerHead.{LayerHead}
@@ -23,16 +23,14 @@ use Rattle.layers.proofs.NumbersRead.{reads-le-length, reads-next}
 use Rattle.layers.proofs.Heads.{fit-le, held-of-read_base, read_base-inside, reads-of-read_layers}
 use Rattle.layers.proofs.Prefix.{read_base-next, head_numbers-two}
 use Rattle.placement.proofs.Records.{taken-of-check_records, taken-heads}
-use Rattle.layers.proofs.Answered.{LayersGood}
+use Rattle.layers.proofs.Answered.{LayersGood, layers-good}
 use Rattle.placement.specs.Figure.{rule_of, figure_of}
 use Rattle.placement.specs.Placement.{OrderLimits, TermsReading, Rows, placement_layer_limits, placement_of, read_terms, check_records, check_figure, read_placement}
 use Rattle.placement.specs.Answers.{table_of, records_check, placement_checked, placement_head}
 use Rattle.placement.specs.Asked.{RecordsAsked}
 use Rattle.placement.specs.declared.FeederTable.{FeederTable}
-use Rattle.placement.specs.declared.RecordsCheck.{RecordsCheck}
 use Rattle.placement.specs.declared.PlacementCheck.{PlacementCheck}
 use Rattle.placement.specs.declared.PlacementHead.{PlacementHead}
-use Rattle.placement.specs.declared.PlacementAnswer.TheVariants.{Accepted}
 use Rattle.crowding_code.specs.Load.{first_load}
 use Rattle.placement_code.specs.Loaded.{Handed}
 use Rattle.placement.proofs.Accepted.{term_numbers, order_of, reads-of-read_terms}
@@ -46,7 +44,7 @@ handed-refused is why = (
 )
 
 -- what is handed on beside an accepted head
-pub handed-on : {s : List ℕ} {load : ℕ} (check : PlacementCheck) (h : PlacementHead) → check.answer ≡ Accepted h
+pub handed-on : {s : List ℕ} {load : ℕ} (check : PlacementCheck) (h : PlacementHead) → check.answer ≡ Ok h
     → ((h.kind ≡ 6 → ⊥) → load ≡ first_load h.r check.layers s h.first) → Handed s check load
 handed-on {s} {load} check h answer is =
     record {
@@ -55,16 +53,6 @@ handed-on {s} {load} check h answer is =
           let same : h ≡ head = cc in
           subst (λ (g : PlacementHead). (g.kind ≡ 6 → ⊥) → load ≡ first_load g.r check.layers s g.first) same is;
     }
-
--- what checking the rows gave
-pub records-refused : (m : Checked Rows) {check : RecordsCheck} {e : Refusal} → check ≡ records_check m → check.verdict ≡ NotGood e → m ≡ refused e
-records-refused (accepted rows) is why = let v = ap (λ c. c.verdict) is in cc
-records-refused (refused e) is why = let v = ap (λ c. c.verdict) is in cc
-
-pub records-good : (m : Checked Rows) {check : RecordsCheck} → check ≡ records_check m → check.verdict ≡ Good
-    → (rows : Rows) × (m ≡ accepted rows) × (check.table ≡ table_of rows.feeders)
-records-good (accepted rows) is good = (rows, refl, ap (λ c. c.table) is)
-records-good (refused e) is good = absurd (let v = ap (λ c. c.verdict) is in let z : ◌≡◌ {A = ℕ} 0 1 = cc in omega arith)
 
 -- what is known of n, r, s, k and b that were read
 pub order-limits : (s : List ℕ) {head : BaseReading} {order : TermsReading} → read_base PlacementKind s ≡ accepted head
@@ -75,6 +63,19 @@ order-limits s {head} {order} b o =
     let base = (held-of-read_base PlacementKind s b).limits in
     let (reads, limits) = reads-of-read_terms head.base s head.next o base.n-least in
     (base, limits, reads-le-length (term_numbers order.terms) s head.next order.next (read_base-inside PlacementKind s b) reads)
+
+-- what is known of the layers' numbers that were read
+pub numbers-good : (s : List ℕ) {head : BaseReading} {order : TermsReading} → read_base PlacementKind s ≡ accepted head
+    → read_terms head.base s head.next ≡ accepted order → {given : Result LayersRead Refusal} {numbers : LayersRead}
+    → given ≡ layers_read (read_layers placement_layer_limits order.terms.s order.terms.b s order.next) → given ≡ Ok numbers
+    → LayersGood placement_layer_limits order.terms.s order.terms.b s order.next numbers
+numbers-good s {order = order} b o is good =
+    let (base, limits, inside) = order-limits s b o in
+    layers-good placement_layer_limits order.terms.s order.terms.b s order.next is good (omega (arith, limits.s-most, base.r-most))
+
+-- a value is there
+pub is-ok : {A : Type 0} {r : Result A Refusal} {a : A} → r ≡ Ok a → IsOk r
+is-ok e = rw e refl
 
 module _ (s : List ℕ) where
   pub placement-no-base : {e : Refusal} → read_base PlacementKind s ≡ refused e → placement_checked (refused e) ≡ placement_checked (read_placement s)
@@ -175,7 +176,7 @@ module _ (s : List ℕ) where
               → {dark : Dark} → dark ≡ dark_of head.base.dark → {table : FeederTable} → table ≡ table_of rows.feeders
               → ◌≡◌ {A = PlacementCheck}
               (record {
-                answer = Accepted (placement_head (record { content = placement_of head.kind head.base order.terms rows; first = numbers.next }));
+                answer = Ok (placement_head (record { content = placement_of head.kind head.base order.terms rows; first = numbers.next }));
                 layers = numbers.heads;
                 dark = dark;
                 feeders = table;

@@ -1,6 +1,7 @@
 -- The answers of checking the rows of kind 6: 1 for their length, 1, 2 or 4 for a number after them, 5, then 6 over all rows, 15, 21, 7.
 -- Assumes nothing.
 use Prim.Native.Nat.{ℕ, ◌+◌, ◌*◌, ◌≤◌, ◌<◌}
+use Rattle.std.specs.Prelude.{⊤, Result, Ok, Err}
 use native.Mathlib.Omega.{arith}
 use mathlib.Core.Path.{◌≡◌, refl, sym, ◌∙◌, ap}
 use mathlib.Core.List.{List}
@@ -12,9 +13,8 @@ use Rattle.lists.specs.Lists.{All}
 use Rattle.lists.proofs.Alls.{all_both}
 use Rattle.refusal.specs.declared.Refusal.{Refusal}
 use Rattle.refusal.specs.declared.Refusal.TheVariants.{Ended, Trailing, BadRow}
-use Rattle.refusal.specs.declared.Verdict.{Verdict}
-use Rattle.refusal.specs.declared.Verdict.TheVariants.{Good, Refused}
 use Rattle.refusal.specs.Checked.{Checked, accepted, refused, ◌>>=◌, verdict}
+use Rattle.refusal.proofs.Answered.{answered-ok}
 use Rattle.refusal.proofs.Checked.{verdict-good, verdict-refused, refused-not-accepted}
 use Rattle.packing.specs.Rows.{Row, is_in_order, rows_at, first_bad}
 use Rattle.packing.proofs.Test.{good-iff-in-order}
@@ -27,25 +27,22 @@ use Rattle.placement.specs.Placement.{Rows, check_records}
 use Rattle.placement.specs.Answers.{table_of, feeders_read, records_check}
 use Rattle.placement.specs.Asked.{TableFits, table_feeders, feeders_checked, fed_rows_checked}
 use Rattle.placement.specs.declared.FeedersRead.{FeedersRead}
-use Rattle.placement.specs.declared.RecordsCheck.{RecordsCheck}
 use Rattle.placement.proofs.FeederNumbers.{Numbered, reads-of-read_numbered}
 use Rattle.placement.proofs.RecordsMeaning.{when-short, when-feeders}
 use Rattle.feeders_packings.proofs.TableFeeders.{same-feeders}
 
 -- what reading the feeders gave
-pub read-refused : (m : Checked FeedersReading) {read : FeedersRead} {e : Refusal} → read ≡ feeders_read m → read.verdict ≡ Refused e → m ≡ refused e
-read-refused (accepted a) is why = let v = ap (λ r. r.verdict) is in cc
-read-refused (refused e) is why = let v = ap (λ r. r.verdict) is in cc
-
 pub record WasRead (m : Checked FeedersReading) (read : FeedersRead) : Type 0 where
   pub after : FeedersReading
   pub is : m ≡ accepted after
   pub table_is : read.table ≡ table_of after.feeders
   pub next-is : read.next ≡ after.next
 
-pub was_read : (m : Checked FeedersReading) {read : FeedersRead} → read ≡ feeders_read m → read.verdict ≡ Good → WasRead m read
-was_read (accepted a) is good = record { after = a; is = refl; table_is = ap (λ r. r.table) is; next-is = ap (λ r. r.next) is }
-was_read (refused e) is good = absurd (let v = ap (λ r. r.verdict) is in let z : ◌≡◌ {A = ℕ} 0 1 = cc in omega arith)
+pub was_read : (m : Checked FeedersReading) {given : Result FeedersRead Refusal} {read : FeedersRead} → given ≡ feeders_read m
+    → given ≡ Ok read → WasRead m read
+was_read m is good =
+    let (a, accepts, made) = answered-ok _ m is good in
+    record { after = a; is = accepts; table_is = ap (λ r. r.table) made; next-is = ap (λ r. r.next) made }
 
 -- the table that was read says of each node what its feeders say
 same_rows : (base : Site) (at : ℕ) (feeders : Feeders) (layers : List Layer) → length feeders.each ≤ 255
@@ -54,7 +51,7 @@ unfolding fed_rows_checked
 same_rows base at feeders layers few = rw (same-feeders base.r at feeders layers few) refl
 
 -- The steps over the rows.
-module _ (base : Site) (heads : List LayerHead) (s : List ℕ) (at rows : ℕ) (count : rows ≡ sizes heads) (feeders : Feeders) (order : Verdict)
+module _ (base : Site) (heads : List LayerHead) (s : List ℕ) (at rows : ℕ) (count : rows ≡ sizes heads) (feeders : Feeders) (order : Result ⊤ Refusal)
     (is : order ≡ verdict (check_ascending base at (rows_at base.r rows (drop at s)))) where
   layers : List Layer
   layers = layers_at base.r heads (drop at s)
@@ -63,12 +60,12 @@ module _ (base : Site) (heads : List LayerHead) (s : List ℕ) (at rows : ℕ) (
   unfolding layers
   order_is = is ∙ rw (count, all_rows-layers_at base.r heads (drop at s)) refl
 
-  pub fed-unordered : {e : Refusal} → order ≡ Refused e
-      → Refused e ≡ verdict (fed_rows_checked base at feeders (layers_at base.r heads (drop at s)))
+  pub fed-unordered : {e : Refusal} → order ≡ Err e
+      → Err e ≡ verdict (fed_rows_checked base at feeders (layers_at base.r heads (drop at s)))
   unfolding layers fed_rows_checked
   fed-unordered k = rw (verdict-refused (check_ascending base at (all_rows layers)) order_is k) refl
 
-  module _ (good : order ≡ Good) where
+  module _ (good : order ≡ Ok tt) where
     -- the rows are rows
     pub fed-rows : at + sizes heads * base.r ≤ length s → All (Row base.n base.r) (all_rows (layers_at base.r heads (drop at s)))
     unfolding layers check_ascending
@@ -82,13 +79,13 @@ module _ (base : Site) (heads : List LayerHead) (s : List ℕ) (at rows : ℕ) (
         none_found none e = refl
         none_found (some i) e = absurd (refused-not-accepted e)
 
-    module _ (service : Verdict) (says : service ≡ verdict (check_service base at (rows_at base.r rows (drop at s)))) where
+    module _ (service : Result ⊤ Refusal) (says : service ≡ verdict (check_service base at (rows_at base.r rows (drop at s)))) where
       served : service ≡ verdict (check_service base at (all_rows layers))
       unfolding layers
       served = says ∙ rw (count, all_rows-layers_at base.r heads (drop at s)) refl
 
-      pub fed-dark : {e : Refusal} → service ≡ Refused e
-          → Refused e ≡ verdict (fed_rows_checked base at feeders (layers_at base.r heads (drop at s)))
+      pub fed-dark : {e : Refusal} → service ≡ Err e
+          → Err e ≡ verdict (fed_rows_checked base at feeders (layers_at base.r heads (drop at s)))
       unfolding layers fed_rows_checked
       fed-dark k =
           rw (
@@ -96,7 +93,7 @@ module _ (base : Site) (heads : List LayerHead) (s : List ℕ) (at rows : ℕ) (
             verdict-refused (check_service base at (all_rows layers)) served k,
           ) refl
 
-      pub fed-left : service ≡ Good → {answer : Verdict}
+      pub fed-left : service ≡ Ok tt → {answer : Result ⊤ Refusal}
           → answer ≡ verdict (feeders_checked base.r at feeders (layers_at base.r heads (drop at s)))
           → answer ≡ verdict (fed_rows_checked base at feeders (layers_at base.r heads (drop at s)))
       unfolding layers fed_rows_checked
@@ -179,13 +176,13 @@ module _ (base : Site) (k : ℕ) (heads : List LayerHead) (s : List ℕ) (at row
             ap (λ t. fed_rows_checked base at (table_feeders t) (layers_at base.r heads (drop at s))) fed-fits.is
             ∙ same_rows base at numbered.table (layers_at base.r heads (drop at s)) (omega (arith, numbered.limits.node-each, few))
 
-        module _ {tested : Verdict} (is : tested ≡ verdict (fed_rows_checked base at (table_feeders read.table) (layers_at base.r heads (drop at s)))) where
-          pub fed-refused : {e : Refusal} → tested ≡ Refused e → check_records 6 base k heads s at ≡ refused e
+        module _ {tested : Result ⊤ Refusal} (is : tested ≡ verdict (fed_rows_checked base at (table_feeders read.table) (layers_at base.r heads (drop at s)))) where
+          pub fed-refused : {e : Refusal} → tested ≡ Err e → check_records 6 base k heads s at ≡ refused e
           fed-refused why = rw (whole, ← tested-is, verdict-refused (fed_rows_checked base at (table_feeders read.table) (layers_at base.r heads (drop at s))) is why) refl
 
-          pub fed-good : tested ≡ Good → ◌≡◌ {A = RecordsCheck} (record { verdict = Good; table = read.table }) (records_check (check_records 6 base k heads s at))
+          pub fed-good : tested ≡ Ok tt → Ok read.table ≡ records_check (check_records 6 base k heads s at)
           unfolding handed_on fed-fits
           fed-good good =
               let checked : check_records 6 base k heads s at ≡ accepted handed_on =
               rw (whole, ← tested-is, (verdict-good (fed_rows_checked base at (table_feeders read.table) (layers_at base.r heads (drop at s))) is good).1) refl in
-              ap {B = RecordsCheck} (λ t. record { verdict = Good; table = t }) fed-fits.is ∙ sym (ap records_check checked)
+              ap Ok fed-fits.is ∙ sym (ap records_check checked)

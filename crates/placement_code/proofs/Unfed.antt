@@ -1,20 +1,19 @@
 -- A placement without feeders: its rows are checked as a pack's blocks are. Assumes nothing.
 use Prim.Native.Nat.{ℕ, ◌+◌, ◌*◌}
+use Rattle.std.specs.Prelude.{⊤, Result, Ok, Err, IsOk}
 use mathlib.Core.Path.{◌≡◌, refl}
 use mathlib.Core.Bool.{false}
 use mathlib.Core.List.{List, []}
 use mathlib.Core.Option.{none}
-use lib.ListN.{replicate, drop}
-use Rattle.refusal.specs.declared.Verdict.{Verdict}
+use lib.ListN.{drop}
 use Rattle.refusal.specs.Checked.{Checked, accepted, refused, ◌>>=◌, map_accepted, verdict}
 use Rattle.layers.specs.Layers.{Layer, Site, sizes, all_rows, layers_at, check_length, check_end, check_ascending, check_service, check_packings, check_rows}
 use Rattle.layers.specs.declared.LayerHead.{LayerHead}
-use Rattle.layers.specs.Answers.{nodes_array}
-use Rattle.layers.proofs.Listing.{nodes_array-nil}
 use Rattle.placement.specs.Feeders.{fed, read_feeders, check_apart}
 use Rattle.placement.specs.Placement.{Rows, check_records}
 use Rattle.placement.specs.Answers.{records_check}
-use Rattle.placement.specs.declared.RecordsCheck.{RecordsCheck}
+use Rattle.placement_code.specs.Loaded.{unfed}
+use Rattle.refusal.specs.declared.Refusal.{Refusal}
 
 -- rows without feeders
 abbrev pub plain_rows : List Layer → Rows
@@ -42,13 +41,18 @@ unfed-rows kind base k heads s at is =
     (check_packings base.r at layers) layers)
 
 -- the code's answer
-pub unfed-answer : (kind : ℕ) (base : Site) (k : ℕ) (heads : List LayerHead) (s : List ℕ) (at : ℕ) {v : Verdict} → fed kind ≡ false
+pub unfed-answer : (kind : ℕ) (base : Site) (k : ℕ) (heads : List LayerHead) (s : List ℕ) (at : ℕ) {v : Result ⊤ Refusal} → fed kind ≡ false
     → v ≡ verdict (check_rows base heads s at)
-    → ◌≡◌ {A = RecordsCheck} (record { verdict = v; table = record { number = 0; each = replicate 255 0 } }) (records_check (check_records kind base k heads s at))
+    → unfed v ≡ records_check (check_records kind base k heads s at)
 unfed-answer kind base k heads s at is e =
-    rw (e, unfed-rows kind base k heads s at is, nodes_array-nil) (go (check_rows base heads s at))
+    rw (e, unfed-rows kind base k heads s at is) (go (check_rows base heads s at))
   where
     go : (m : Checked (List Layer))
-        → ◌≡◌ {A = RecordsCheck} (record { verdict = verdict m; table = record { number = 0; each = nodes_array [] } }) (records_check (map_accepted plain_rows m))
+        → unfed (verdict m) ≡ records_check (map_accepted plain_rows m)
     go (accepted layers) = refl
     go (refused why) = refl
+
+-- a table comes of a good verdict
+pub unfed-good : (v : Result ⊤ Refusal) → IsOk (unfed v) → v ≡ Ok tt
+unfed-good (Ok tt) good = refl
+unfed-good (Err e) good = cc

@@ -11,8 +11,8 @@ ghost use Rattle.placement.specs.Answers.{placement_checked};
 ghost use Rattle.placement_code.specs.Loaded.{Handed};
 
 use layers::{Dark, FileKind, LayerHead, LayerLimits};
-use placement::{FeederTable, Order, PlacementAnswer, PlacementCheck, PlacementHead};
-use refusal::{Refusal, Verdict};
+use placement::{FeederTable, Order, PlacementCheck, PlacementHead};
+use refusal::Refusal;
 
 // What checking a placement gives, with the load of layer 0 beside an accepted one without feeders.
 #[derive(Clone, Copy)]
@@ -27,7 +27,7 @@ fn refuse(e: Refusal) -> LoadedCheck
 {
     LoadedCheck {
         check: PlacementCheck {
-            answer: PlacementAnswer::Refused(e),
+            answer: Err(e),
             layers: [LayerHead { bound: 0, size: 0 }; 5],
             dark: Dark {
                 count: 0,
@@ -47,18 +47,16 @@ pub fn check_loaded(bytes: &[u8]) -> LoadedCheck
     ensures check_value { result.check ≡ placement_checked (read_placement bytes.now) }
     ensures handed { Handed bytes.now result.check result.load }
 {
-    let head = layers_base::read_base(bytes, FileKind::Placement);
-    let head_verdict = head.verdict;
-    if let Verdict::Refused(e) = head_verdict {
-        return refuse(e);
-    }
+    let head = match layers_base::read_base(bytes, FileKind::Placement) {
+        Ok(head) => head,
+        Err(e) => return refuse(e),
+    };
     let kind = head.kind;
     let base = head.base;
-    let read = terms_code::read_terms(bytes, base, head.next);
-    let read_verdict = read.verdict;
-    if let Verdict::Refused(e) = read_verdict {
-        return refuse(e);
-    }
+    let read = match terms_code::read_terms(bytes, base, head.next) {
+        Ok(read) => read,
+        Err(e) => return refuse(e),
+    };
     let t = read.terms;
     let s = t.s;
     let b = t.b;
@@ -67,29 +65,26 @@ pub fn check_loaded(bytes: &[u8]) -> LoadedCheck
         hi: 16_777_216,
         full: true,
     };
-    let numbers = layers_reader::read_layers(bytes, read.next, s, b, limits);
-    let numbers_verdict = numbers.verdict;
-    if let Verdict::Refused(e) = numbers_verdict {
-        return refuse(e);
-    }
+    let numbers = match layers_reader::read_layers(bytes, read.next, s, b, limits) {
+        Ok(numbers) => numbers,
+        Err(e) => return refuse(e),
+    };
     let layers = numbers.heads;
     let first = numbers.next;
     let loaded = records::check_records(bytes, first, kind, base, t, layers);
-    let records = loaded.records;
-    let rows_verdict = records.verdict;
-    if let Verdict::Refused(e) = rows_verdict {
-        return refuse(e);
-    }
+    let feeders = match loaded.records {
+        Ok(feeders) => feeders,
+        Err(e) => return refuse(e),
+    };
     let order = Order { s, k: t.k, b };
     let rule = placement_figure::rule_of(kind);
     if t.figure != placement_figure::figure_of(rule, order, layers) {
         return refuse(Refusal::WrongFigure(t.place));
     }
     let dark = base.dark;
-    let feeders = records.table;
     LoadedCheck {
         check: PlacementCheck {
-            answer: PlacementAnswer::Accepted(PlacementHead {
+            answer: Ok(PlacementHead {
                 kind,
                 n: base.n,
                 r: base.r,

@@ -27,10 +27,8 @@ pub fn floors_down(k: usize, s: usize, x: usize, lambda: usize) -> usize
     ensures { result ≡ floors_down k s x lambda }
 {
     let mut w = lambda;
-    let mut i = x;
-    while i > 0 {
+    for i in (1..=x).rev() {
         w = w * (k - i) / (s - i);
-        i -= 1;
     }
     w * k / s
 }
@@ -49,6 +47,7 @@ fn lost_by(rule: Rule, s: usize, k: usize, x: usize, lambda: usize) -> usize
 }
 
 // The loss of layer x by the rule. A layer without records loses nothing, whatever its floors: they are not computed.
+#[tactic(auto, unfolding(placement::specs::Figure::loss))]
 fn loss_of(rule: Rule, s: usize, k: usize, x: usize, layer: LayerHead) -> usize
     requires { (x < s) × (s ≤ 5) × (s ≤ k) × (k ≤ 255) × (layer.bound ≤ 16_777_216) }
     ensures { result ≡ loss rule s k x layer }
@@ -56,7 +55,7 @@ fn loss_of(rule: Rule, s: usize, k: usize, x: usize, layer: LayerHead) -> usize
     if layer.size == 0 {
         return 0;
     }
-    minmax::smaller(layer.size, lost_by(rule, s, k, x, layer.bound))
+    lost_by(rule, s, k, x, layer.bound).min(layer.size)
 }
 
 // The figure by the rule: b less the losses of the layers below s.
@@ -69,10 +68,8 @@ pub fn figure_of(rule: Rule, order: Order, layers: [LayerHead; 5]) -> usize
     let k = order.k;
     let b = order.b;
     let mut lost: usize = 0;
-    let mut x: usize = 0;
-    while x < s {
+    for x in 0..s {
         lost += loss_of(rule, s, k, x, layers[x]);
-        x += 1;
     }
     b - lost
 }

@@ -1,5 +1,6 @@
 -- The checks of planning: when each refuses, what each accepts, and what follows for planning on a pack. Assumes nothing.
 use Prim.Native.Nat.{ℕ, ◌≤◌, ◌<◌}
+use Rattle.std.specs.Prelude.{⊤, Result, Ok}
 use mathlib.Core.Path.{◌≡◌}
 use mathlib.Core.Bool.{◌&&◌, true, false, and-eq-true_iff}
 use mathlib.Core.List.{List}
@@ -8,8 +9,6 @@ use borrow.Author.Tests.{le-leb, lt-leb, lt-ltb, le-ltb, leb-true, ltb-true}
 use Rattle.lists.proofs.Tests.{T_true, true-T}
 use Rattle.refusal.specs.declared.Refusal.{Refusal}
 use Rattle.refusal.specs.declared.Refusal.TheVariants.{BadOrder, NoBlock, ShortWork, ShortOutput}
-use Rattle.refusal.specs.declared.Verdict.{Verdict}
-use Rattle.refusal.specs.declared.Verdict.TheVariants.{Good}
 use Rattle.refusal.specs.Checked.{Checked, accepted, refused, verdict}
 use Rattle.refusal.proofs.Checked.{verdict-good, bind-elim, require-accepted, require-bind-accepted}
 use Rattle.layers.specs.Layers.{heads_of}
@@ -21,7 +20,7 @@ use Rattle.split.specs.Splits.{has_block}
 use Rattle.planner.specs.Planning.{check_order, check_blocks, check_work, check_output, named_placement, plan_pack, Fits, work_needed, output_needed}
 
 -- a check that the code's verdict calls good is passed
-pub passed : (m : Checked Unit) {v : Verdict} → v ≡ verdict m → v ≡ Good → m ≡ accepted tt
+pub passed : (m : Checked Unit) {v : Result ⊤ Refusal} → v ≡ verdict m → v ≡ Ok tt → m ≡ accepted tt
 passed m is good = (verdict-good m is good).1
 
 -- refusal 12: the first of s, k and b that is outside its limits

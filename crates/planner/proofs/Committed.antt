@@ -1,6 +1,7 @@
 -- The split with given counts and the least copies: its placement is good, and its bytes are what is written. Assumes
 -- nothing.
 use Prim.Native.Nat.{ℕ, zero, suc, ◌+◌, ◌*◌, ◌-◌, ◌≤◌, ◌<◌}
+use Rattle.std.specs.Prelude.{Ok}
 use native.Mathlib.Omega.{arith}
 use native.Mathlib.Nat.{le_refl, le_trans, mul-le-mul_right}
 use mathlib.Core.Path.{◌≡◌, refl, sym, ◌∙◌, ap, subst}
@@ -32,7 +33,6 @@ use Rattle.split.proofs.Bounds.{copies_for-mul-bound-le}
 use Rattle.split.proofs.Heads.{length-split_heads, split-count-le}
 use Rattle.planner.specs.Planning.{placed, split_placement, output_needed, output_after}
 use Rattle.planner.specs.Answers.{plan_answer}
-use Rattle.planner.specs.declared.PlanAnswer.TheVariants.{Planned}
 use Rattle.planner.specs.Writing.{held_layers, held_pack, counts_placement, written_numbers, rows_below, Writable, SharesFit, RowsFit}
 use Rattle.planner.proofs.Layering.{layer_at-held, length-rows_below}
 use Rattle.planner.proofs.Placed.{heads-placed, placed-good}
@@ -230,8 +230,8 @@ module _ {base : Base} {layers : List LayerHead} {blocks : List ℕ} {order : Or
     long : at + order.b * base.r ≡ length (placement_bytes (placement (w made)))
     long = omega (arith, h.head_bytes.0, bytes-length made)
 
-    pub answer-is : Planned (at + order.b * base.r) figure ≡ (plan_answer (accepted (placement (w made)))).answer
-    answer-is = λ i. Planned (long i) (sym (made-figure made) i)
+    pub answer-is : Ok (record { length = at + order.b * base.r; figure = figure }) ≡ (plan_answer (accepted (placement (w made)))).answer
+    answer-is = λ i. Ok (record { length = long i; figure = sym (made-figure made) i })
 
     pub output-is : given_back out at last ≡ output_after (accepted (placement (w made))) out₀
     output-is =

@@ -1,5 +1,6 @@
 -- The pack that the check of its bytes found, from the numbers of the check's answer. Assumes nothing.
 use Prim.Native.Nat.{ℕ, ◌-◌, ◌≤◌}
+use Rattle.std.specs.Prelude.{Ok, Err}
 use native.Mathlib.Omega.{arith}
 use native.Mathlib.Nat.{le_refl}
 use mathlib.Core.Path.{◌≡◌, refl, sym, ◌∙◌, ap}
@@ -22,7 +23,6 @@ use Rattle.layers.proofs.Listing.{dark-count, dark_list-dark_of}
 use Rattle.pack.specs.Pack.{Pack, GoodPack, read_pack, check_pack}
 use Rattle.pack.specs.Answers.{pack_checked}
 use Rattle.pack.specs.declared.PackHead.{PackHead}
-use Rattle.pack.specs.declared.PackAnswer.TheVariants.{Accepted, Refused}
 use Rattle.pack.specs.declared.PackCheck.{PackCheck}
 use Rattle.pack.proofs.Accepted.{read-of-pack, blocks-stand}
 use Rattle.planner.specs.Writing.{held_pack, PackHeld}
@@ -119,22 +119,22 @@ module _ (bytes : List ℕ) (file : Located Pack) (read : read_pack bytes ≡ ac
 
 -- what the check's answer says
 module _ (bytes : List ℕ) {check : PackCheck} (is : check ≡ pack_checked (read_pack bytes)) where
-  pub check-refused : {e : Refusal} → check.answer ≡ Refused e → check_pack bytes ≡ refused e
+  pub check-refused : {e : Refusal} → check.answer ≡ Err e → check_pack bytes ≡ refused e
   unfolding check_pack
   check-refused {e} a = go (read_pack bytes) (sym a ∙ ap (λ (c : PackCheck). c.answer) is)
     where
-      go : (m : Checked (Located Pack)) → Refused e ≡ (pack_checked m).answer → map_accepted (λ file. file.content) m ≡ refused e
+      go : (m : Checked (Located Pack)) → Err e ≡ (pack_checked m).answer → map_accepted (λ file. file.content) m ≡ refused e
       go (accepted file) q = cc
       go (refused why) q = cc
 
-  pub check-accepted : {head : PackHead} → check.answer ≡ Accepted head → PackFound bytes head check.layers check.dark
+  pub check-accepted : {head : PackHead} → check.answer ≡ Ok head → PackFound bytes head check.layers check.dark
   check-accepted {head} a = go (read_pack bytes) refl is
     where
       go : (m : Checked (Located Pack)) → read_pack bytes ≡ m → check ≡ pack_checked m → PackFound bytes head check.layers check.dark
       go (accepted file) read q =
-          let answer : Accepted head ≡ (pack_checked (accepted file)).answer = sym a ∙ ap (λ (c : PackCheck). c.answer) q in
+          let answer : Ok head ≡ (pack_checked (accepted file)).answer = sym a ∙ ap (λ (c : PackCheck). c.answer) q in
           let head-is : head ≡ record { n = file.content.n; r = file.content.r; first = file.first } = cc in
           rw (head-is, q) (pack-found bytes file read)
       go (refused why) read q =
-          let answer : Accepted head ≡ Refused why = sym a ∙ ap (λ (c : PackCheck). c.answer) q in
+          let answer : Ok head ≡ Err why = sym a ∙ ap (λ (c : PackCheck). c.answer) q in
           absurd (let z : ◌≡◌ {A = ℕ} 0 1 = cc in omega arith)

@@ -3,16 +3,16 @@
 
 use refusal::Refusal;
 
-// What planning gives: the placement's length in bytes and its figure, or the refusal.
+// An accepted plan: the placement's length in bytes and its figure.
 #[derive(Clone, Copy)]
-pub enum PlanAnswer {
-    Planned { length: usize, figure: usize },
-    Refused(Refusal),
+pub struct PlannedFile {
+    pub length: usize,
+    pub figure: usize,
 }
 
-// The answer, with the count of each layer below s; entries from s on are 0, and so are all beside a refusal.
+// The answer, the plan or the refusal, with the count of each layer below s; entries from s on are 0, and so are all beside a refusal.
 #[derive(Clone, Copy)]
 pub struct PlanResult {
-    pub answer: PlanAnswer,
+    pub answer: Result<PlannedFile, Refusal>,
     pub counts: [usize; 5],
 }

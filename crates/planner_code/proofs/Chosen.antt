@@ -1,6 +1,7 @@
 -- Planning an order that passes the checks: the chosen counts are the named split's, and what is written is the named
 -- placement. Assumes nothing.
 use Prim.Native.Nat.{ℕ, suc, ◌*◌, ◌≤◌, ◌<◌}
+use Rattle.std.specs.Prelude.{Result}
 use native.Mathlib.Omega.{arith}
 use mathlib.Core.Path.{◌≡◌, refl, sym, ◌∙◌, ap}
 use mathlib.Core.List.{List, map, map-map}
@@ -30,8 +31,8 @@ use Rattle.split.proofs.NamedCounts.{length-named_counts}
 use Rattle.planner.specs.Planning.{Fits, placed, split_placement, named_placement, output_after}
 use Rattle.planner.specs.Answers.{plan_answer, PlanDone}
 use Rattle.planner.specs.Writing.{held_pack, counts_placement, Writable, PackHeld}
-use Rattle.planner.specs.declared.PlanAnswer.{PlanAnswer}
 use Rattle.planner.specs.declared.PlanResult.{PlanResult}
+use Rattle.planner.specs.declared.PlannedFile.{PlannedFile}
 use Rattle.planner.proofs.Blocks.{block_held}
 use Rattle.planner.proofs.Layering.{layer_at-held}
 use Rattle.planner.proofs.Placed.{split_placement-congr}
@@ -128,7 +129,7 @@ module _ {base : Base} {layers : List LayerHead} {blocks : List ℕ} (held : Pac
       placement-is = split_placement-congr pack order.s order.k order.b (counts_split heads counts) _ pack-shares-are
 
       -- the answer and the slices afterwards
-      pub named-done : {out out-left : List ℕ} {answer : PlanAnswer}
+      pub named-done : {out out-left : List ℕ} {answer : Result PlannedFile Refusal}
           → (answer ≡ (plan_answer (accepted (counts_placement pack order counts))).answer)
           × (out-left ≡ output_after (accepted (counts_placement pack order counts)) out)
           → PlanDone (accepted (named_placement pack order.s order.k order.b)) before after out out-left

@@ -8,17 +8,16 @@ ghost use Rattle.planner.specs.Answers.{plan_answer, PlanDone};
 ghost use Rattle.planner.specs.Writing.{held_pack, PackHeld};
 
 use layers::{Base, LayerHead};
-use pack::PackAnswer;
 use placement::Order;
-use planner::{PlanAnswer, PlanResult};
-use refusal::{Refusal, Verdict};
+use planner::PlanResult;
+use refusal::Refusal;
 
 // The answer that refuses.
 fn refuse(e: Refusal) -> PlanResult
     ensures { result ≡ plan_answer (refused e) }
 {
     PlanResult {
-        answer: PlanAnswer::Refused(e),
+        answer: Err(e),
         counts: [0; 5],
     }
 }
@@ -61,19 +60,19 @@ fn plan_pack(
     let s = order.s;
     let b = order.b;
     let limits = planner_order::check_order(base, order);
-    if let Verdict::Refused(e) = limits {
+    if let Err(e) = limits {
         return refuse(e);
     }
     let some = planner_order::check_blocks(layers, s);
-    if let Verdict::Refused(e) = some {
+    if let Err(e) = some {
         return refuse(e);
     }
     let entries = planner_order::check_work(order, work.len());
-    if let Verdict::Refused(e) = entries {
+    if let Err(e) = entries {
         return refuse(e);
     }
     let bytes = planner_order::check_output(b, r, out.len());
-    if let Verdict::Refused(e) = bytes {
+    if let Err(e) = bytes {
         return refuse(e);
     }
     plan_order(blocks, base, layers, order, work, out)
@@ -103,8 +102,8 @@ pub fn plan(
     let dark = checked.dark;
     let answer = checked.answer;
     match answer {
-        PackAnswer::Refused(e) => refuse(e),
-        PackAnswer::Accepted(head) => {
+        Err(e) => refuse(e),
+        Ok(head) => {
             let base = Base {
                 n: head.n,
                 r: head.r,

@@ -7,10 +7,10 @@ ghost use Rattle.planner.specs.Planning.{check_order, check_blocks, check_work, 
 
 use layers::{Base, LayerHead};
 use placement::Order;
-use refusal::{Refusal, Verdict};
+use refusal::Refusal;
 
 // Whether s is 1..r, k is s..n-1 and b is 1..4,096, or refusal 12.
-pub fn check_order(base: Base, order: Order) -> Verdict
+pub fn check_order(base: Base, order: Order) -> Result<(), Refusal>
     ensures { result ≡ verdict (check_order base.n base.r order) }
 {
     let n = base.n;
@@ -19,43 +19,39 @@ pub fn check_order(base: Base, order: Order) -> Verdict
     let k = order.k;
     let b = order.b;
     if s < 1 {
-        return Verdict::Refused(Refusal::BadOrder(0));
+        return Err(Refusal::BadOrder(0));
     }
     if r < s {
-        return Verdict::Refused(Refusal::BadOrder(0));
+        return Err(Refusal::BadOrder(0));
     }
     if k < s {
-        return Verdict::Refused(Refusal::BadOrder(1));
+        return Err(Refusal::BadOrder(1));
     }
     if n <= k {
-        return Verdict::Refused(Refusal::BadOrder(1));
+        return Err(Refusal::BadOrder(1));
     }
     if b < 1 {
-        return Verdict::Refused(Refusal::BadOrder(2));
+        return Err(Refusal::BadOrder(2));
     }
     if 4096 < b {
-        return Verdict::Refused(Refusal::BadOrder(2));
+        return Err(Refusal::BadOrder(2));
     }
-    Verdict::Good
+    Ok(())
 }
 
 // Whether some layer below s has a block, or refusal 9.
-pub fn check_blocks(layers: [LayerHead; 5], s: usize) -> Verdict
+pub fn check_blocks(layers: [LayerHead; 5], s: usize) -> Result<(), Refusal>
     requires { s ≤ 5 }
     ensures { result ≡ verdict (check_blocks layers s) }
 {
-    let mut x: usize = 0;
-    while x < s {
-        if 0 < layers[x].size {
-            return Verdict::Good;
-        }
-        x += 1;
+    if layers[0..s].iter().any(|layer| 0 < layer.size) {
+        return Ok(());
     }
-    Verdict::Refused(Refusal::NoBlock)
+    Err(Refusal::NoBlock)
 }
 
 // Whether a working slice of `work` entries is long enough, or refusal 10.
-pub fn check_work(order: Order, work: usize) -> Verdict
+pub fn check_work(order: Order, work: usize) -> Result<(), Refusal>
     requires { (order.s ≤ 5) × (order.b ≤ 4_096) }
     ensures { result ≡ verdict (check_work order work) }
 {
@@ -63,19 +59,19 @@ pub fn check_work(order: Order, work: usize) -> Verdict
     let b = order.b;
     let needed = s * (b + 1);
     if work < needed {
-        return Verdict::Refused(Refusal::ShortWork(needed));
+        return Err(Refusal::ShortWork(needed));
     }
-    Verdict::Good
+    Ok(())
 }
 
 // Whether an output of `output` bytes is long enough, or refusal 11.
-pub fn check_output(b: usize, r: usize, output: usize) -> Verdict
+pub fn check_output(b: usize, r: usize, output: usize) -> Result<(), Refusal>
     requires { (b ≤ 4_096) × (r ≤ 5) }
     ensures { result ≡ verdict (check_output b r output) }
 {
     let needed = 448 + b * r;
     if output < needed {
-        return Verdict::Refused(Refusal::ShortOutput(needed));
+        return Err(Refusal::ShortOutput(needed));
     }
-    Verdict::Good
+    Ok(())
 }

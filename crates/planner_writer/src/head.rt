@@ -11,11 +11,7 @@ use placement::Order;
 fn own_numbers(order: Order, figure: usize, heads: [LayerHead; 5]) -> [usize; 14]
     ensures { result ≡ own_numbers order figure heads }
 {
-    let h0 = heads[0];
-    let h1 = heads[1];
-    let h2 = heads[2];
-    let h3 = heads[3];
-    let h4 = heads[4];
+    let [h0, h1, h2, h3, h4] = heads;
     [
         order.s, order.k, order.b, figure, h0.bound, h0.size, h1.bound, h1.size, h2.bound, h2.size,
         h3.bound, h3.size, h4.bound, h4.size,

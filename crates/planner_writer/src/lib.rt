@@ -13,7 +13,8 @@ ghost use Rattle.planner.specs.Writing.{held_pack, counts_placement, Writable};
 
 use layers::{Base, LayerHead};
 use placement::{Order, Rule};
-use planner::PlanAnswer;
+use planner::PlannedFile;
+use refusal::Refusal;
 pub use shares::{copies_for, split_heads};
 
 // Writes the placement of the split with these counts and the least copies, a file of kind 5, to the start of `out`.
@@ -25,7 +26,7 @@ pub fn write_placement(
     layers: [LayerHead; 5],
     order: Order,
     counts: [usize; 5],
-) -> PlanAnswer
+) -> Result<PlannedFile, Refusal>
     requires writable { Writable base layers blocks.now order counts }
     requires r_in_bounds { output_needed order.b base.r ≤ length out.old }
     ensures { (result
@@ -40,8 +41,8 @@ pub fn write_placement(
     let figure = placement_figure::figure_of(Rule::NestedFloors, order, heads);
     let at = crate::head::write_head(out, base, order, figure, heads);
     crate::rows::write_layers(&mut out[at..], blocks, r, s, layers, heads);
-    PlanAnswer::Planned {
+    Ok(PlannedFile {
         length: at + b * r,
         figure,
-    }
+    })
 }

@@ -20,13 +20,11 @@ pub(crate) fn write_layers(
 {
     let mut to: usize = 0;
     let mut from: usize = 0;
-    let mut x: usize = 0;
-    while x < s {
+    for x in 0..s {
         let m = layers[x].size;
         let count = heads[x].size;
         rows_code::write_rows(&mut out[to..], &blocks[from..], m, r, count);
         to += count * r;
         from += m * r;
-        x += 1;
     }
 }

@@ -23,17 +23,13 @@ pub fn split_heads(layers: [LayerHead; 5], counts: [usize; 5], s: usize) -> [Lay
     ensures { result ≡ five_heads (split_heads layers s (counts_split layers counts)) }
 {
     let mut heads = [LayerHead { bound: 0, size: 0 }; 5];
-    let mut x: usize = 0;
-    while x < s {
+    for x in 0..s {
         let layer = layers[x];
-        let mu = layer.bound;
-        let m = layer.size;
         let c = counts[x];
         heads[x] = LayerHead {
-            bound: copies_for(c, m) * mu,
+            bound: copies_for(c, layer.size) * layer.bound,
             size: c,
         };
-        x += 1;
     }
     heads
 }

@@ -2,6 +2,7 @@
 -- holds what it held before". A call's contract equates its answer with a value of the code's enum; here is what that value
 -- says, by the definition that "gives this paper's number and values for every case of that enum". Assumes nothing.
 use Prim.Native.Nat.{ℕ, ◌≤◌}
+use Rattle.std.specs.Prelude.{⊤, Result, Ok, Err}
 use mathlib.Core.Path.{◌≡◌, refl}
 use mathlib.Core.List.{List, [], ◌∷◌}
 use mathlib.Core.Option.{Option, none, some}
@@ -70,20 +71,25 @@ pub demand-1-verdict : {A : Type 0} (c : Checked A) → verdict_outcome (verdict
 demand-1-verdict (accepted a) = refl
 demand-1-verdict (refused e) = refl
 
+-- a part's answer without its value: good, or the refusal
+abbrev pub verdict_of : {A : Type 0} → Result A Refusal → Result ⊤ Refusal
+verdict_of (Ok a) = Ok tt
+verdict_of (Err e) = Err e
+
 -- the parts that both checkers have: n, r and the list, the layers' numbers, and a placement's s, k, b and F
-pub demand-1-base : (c : Checked BaseReading) → verdict_outcome (base_read c).verdict ≡ outcome (λ b. []) c
+pub demand-1-base : (c : Checked BaseReading) → verdict_outcome (verdict_of (base_read c)) ≡ outcome (λ b. []) c
 demand-1-base (accepted b) = refl
 demand-1-base (refused e) = refl
 
-pub demand-1-list : (c : Checked NodesReading) → verdict_outcome (dark_read c).verdict ≡ outcome (λ list. []) c
+pub demand-1-list : (c : Checked NodesReading) → verdict_outcome (verdict_of (dark_read c)) ≡ outcome (λ list. []) c
 demand-1-list (accepted list) = refl
 demand-1-list (refused e) = refl
 
-pub demand-1-layers : (c : Checked LayerHeads) → verdict_outcome (layers_read c).verdict ≡ outcome (λ layers. []) c
+pub demand-1-layers : (c : Checked LayerHeads) → verdict_outcome (verdict_of (layers_read c)) ≡ outcome (λ layers. []) c
 demand-1-layers (accepted layers) = refl
 demand-1-layers (refused e) = refl
 
-pub demand-1-terms : (c : Checked TermsReading) → verdict_outcome (terms_read c).verdict ≡ outcome (λ order. []) c
+pub demand-1-terms : (c : Checked TermsReading) → verdict_outcome (verdict_of (terms_read c)) ≡ outcome (λ order. []) c
 demand-1-terms (accepted order) = refl
 demand-1-terms (refused e) = refl
 

@@ -3,6 +3,7 @@
 -- `c-at-most` are for placements of kinds 2, 3 and 5, whose nodes fail; those of kind 6, whose feeders fail, are in `RequestN`.
 -- Assumes nothing.
 use Prim.Native.Nat.{ℕ, ◌+◌, ◌-◌, ◌≤◌, ◌<◌}
+use Rattle.std.specs.Prelude.{Result}
 use native.Mathlib.Omega.{arith}
 use mathlib.Core.Path.{◌≡◌, refl, sym, ◌∙◌, ap, subst}
 use mathlib.Core.Bool.{Bool}
@@ -12,7 +13,7 @@ use lib.Seq.{drop_at}
 use borrow.Author.Tests.{le-leb, lt-leb}
 use Rattle.lists.proofs.UpTo.{length-map-up_to, get_d-map-up_to}
 use Rattle.refusal.specs.declared.Refusal.TheVariants.{ShortOutput}
-use Rattle.refusal.specs.declared.Writing.{Writing}
+use Rattle.refusal.specs.declared.Refusal.{Refusal}
 use Rattle.refusal.specs.Refusals.{result, refusal}
 use Rattle.refusal.specs.Checked.{Checked, accepted, refused, writing_outcome, WritingDone}
 use Rattle.packing.specs.Rows.{member, records_in}
@@ -30,7 +31,7 @@ use Rattle.promises.proofs.Fails.{Fails, nodes-fail}
 
 -- What is promised of a call on an accepted placement of which m can fail, n nodes or (n) g feeders, and whose b records are `rows` as
 -- lists of these. It was lent `out`, left `out-left` in it and answered `given`.
-pub record CurveKept (m : ℕ) (rows : List (List ℕ)) (s k figure : ℕ) (bytes out out-left : List ℕ) (given : Writing) : Type 0 where
+pub record CurveKept (m : ℕ) (rows : List (List ℕ)) (s k figure : ℕ) (bytes out out-left : List ℕ) (given : Result ℕ Refusal) : Type 0 where
   -- "n - s 16-bit numbers"; "A call that only writes answers the bytes or entries written."
   pub answered : writing_outcome given ≡ result ((m - s) ∷ [])
   -- "the figure for each k' from s to n-1, by the same formula with its own lambdas and counts .. lowest k' first"
@@ -59,7 +60,7 @@ curve-length : (p : Placement) → length (curve_of p) ≡ units p - p.s
 unfolding curve_of
 curve-length p = length-map-up_to (λ i. figure_at p (p.s + i)) (units p - p.s)
 
-module _ (bytes out out-left : List ℕ) (given : Writing) (done : WritingDone (check_curve bytes (length out)) out out-left given) where
+module _ (bytes out out-left : List ℕ) (given : Result ℕ Refusal) (done : WritingDone (check_curve bytes (length out)) out out-left given) where
   -- the same in the terms of the accepted placement
   curve-done : (file : Located Placement) → read_placement bytes ≡ accepted file
       → units file.content - file.content.s ≤ length out

@@ -1,6 +1,7 @@
 -- Document 02's request (e), "Estates made of chunks", as theorems in its words: of joining as it is defined, then of the calls, whose
 -- contract is `JoinDone` of `join`. Assumes nothing.
 use Prim.Native.Nat.{ℕ, ◌+◌, ◌*◌, ◌/◌, ◌≤◌, ◌<◌, ◌∣◌}
+use Rattle.std.specs.Prelude.{Result}
 use native.Mathlib.Omega.{arith}
 use mathlib.Core.Path.{◌≡◌, refl, sym, ◌∙◌, ap, subst}
 use mathlib.Core.Logic.{◌↔◌}
@@ -34,7 +35,6 @@ use Rattle.planner.specs.declared.PlanResult.{PlanResult}
 use Rattle.join.specs.Lcm.{lcm}
 use Rattle.join.specs.Join.{Chunk, joint_mu, joint_rows, joint_layer, first_r, joined_pack, within_limits, joinable, check_packs, write_joined, join_packs, join}
 use Rattle.join.specs.Answers.{joined, join_outcome, join_values, JoinDone}
-use Rattle.join.specs.declared.Joined.{Joined}
 use Rattle.join.proofs.Lcm.{lcm-left, lcm-right, lcm-divides}
 use Rattle.join.proofs.Mu.{MuLeast, MultipleOf, joint_mu-multiple, joint_mu-divides, copies-times-mu}
 use Rattle.join.proofs.Layers.{ChunkPacking, part, nodes_of, joint-packing, joint-split, parts-apart}
@@ -116,7 +116,7 @@ e-answer (accepted p) = refl
 e-answer (refused e) = refl
 
 -- A refusal leaves the output as it was.
-pub e-unchanged : (e : Refusal) (out out-left : List ℕ) (given : Joined) → JoinDone (refused e) out out-left given → out-left ≡ out
+pub e-unchanged : (e : Refusal) (out out-left : List ℕ) (given : Result ℕ Refusal) → JoinDone (refused e) out out-left given → out-left ≡ out
 e-unchanged e out out-left given done = done.output-after
 
 -- the largest is at most what every number is at most
@@ -146,7 +146,7 @@ e-joinable packs = (
 
 -- What is promised of a call on packs that are all accepted and can be joined. It was lent `out`, left `out-left` in it and answered
 -- `given`.
-pub record JoinKept (packs : List Pack) (out out-left : List ℕ) (given : Joined) : Type 0 where
+pub record JoinKept (packs : List Pack) (out out-left : List ℕ) (given : Result ℕ Refusal) : Type 0 where
   -- "A call that only writes answers the bytes .. written."
   pub answered : join_outcome given ≡ result (length (bytes_of_pack (joined_pack packs)) ∷ [])
   -- the joined pack stands at the output's start, a file of kind 4; the bytes after it are as before
@@ -161,7 +161,7 @@ pub record JoinKept (packs : List Pack) (out out-left : List ℕ) (given : Joine
   pub accepts : check_pack (bytes_of_pack (joined_pack packs)) ≡ accepted (joined_pack packs)
 
 -- "and planning on it has the same guarantee": demand 3 for a plan from the bytes that the call has written
-pub e-call-guarantee : {packs : List Pack} {joint joint-left : List ℕ} {wrote : Joined} → JoinKept packs joint joint-left wrote
+pub e-call-guarantee : {packs : List Pack} {joint joint-left : List ℕ} {wrote : Result ℕ Refusal} → JoinKept packs joint joint-left wrote
     → (s k b : ℕ) → OrderLimits (joined_pack packs).n (joined_pack packs).r (record { s = s; k = k; b = b })
     → T (has_block (heads_of (joined_pack packs).layers) s)
     → (work work-left out out-left : List ℕ) (given : PlanResult)
@@ -175,7 +175,7 @@ e-call-guarantee {packs} kept s k b limits block work work-left out out-left giv
     s k b limits block work work-left out out-left given hw ho (rw kept.written at done)
 
 -- The calls' contract: `files` are the one, two or three packs that `join_one`, `join_two` or `join_three` was given.
-module _ (files : List (List ℕ)) (out out-left : List ℕ) (given : Joined) (done : JoinDone (join files (length out)) out out-left given) where
+module _ (files : List (List ℕ)) (out out-left : List ℕ) (given : Result ℕ Refusal) (done : JoinDone (join files (length out)) out out-left given) where
   -- what an accepted answer leaves
   join_kept : (packs : List Pack) → 0 < length files → join files (length out) ≡ accepted (joined_pack packs)
       → JoinKept packs out out-left given
@@ -246,7 +246,7 @@ module _ (files : List (List ℕ)) (out out-left : List ℕ) (given : Joined) (d
 -- "The first pack that isn't accepted gives its refusal, the place counted from that pack's first byte": what the pack checker answers
 -- of it alone
 pub e-call-refused : (before : List (List ℕ)) (packs : List Pack) (file : List ℕ) (after : List (List ℕ)) (out out-left : List ℕ)
-    (given : Joined) {number place : ℕ}
+    (given : Result ℕ Refusal) {number place : ℕ}
     → JoinDone (join (before ++ (file ∷ after)) (length out)) out out-left given
     → check_packs before ≡ accepted packs
     → pack_outcome (pack_checked (read_pack file)) ≡ refusal number place

@@ -2,6 +2,7 @@
 -- `planner_code::plan`, `JoinDone (join …)` that of `join_code`'s three calls: what they answer, and what the lent slices hold
 -- afterwards. Assumes nothing.
 use Prim.Native.Nat.{ℕ, ◌+◌, ◌*◌, ◌≤◌, ◌<◌}
+use Rattle.std.specs.Prelude.{Result}
 use native.Mathlib.Omega.{arith}
 use mathlib.Core.Path.{◌≡◌, refl, sym, ◌∙◌, ap, subst}
 use mathlib.Core.Bool.{true≢false}
@@ -13,6 +14,7 @@ use Rattle.lists.specs.Lists.{total}
 use Rattle.lists.proofs.Tests.{true-T}
 use Rattle.refusal.specs.Refusals.{refusal}
 use Rattle.refusal.specs.declared.Refusal.TheVariants.{ShortOutput}
+use Rattle.refusal.specs.declared.Refusal.{Refusal}
 use Rattle.refusal.specs.Checked.{accepted, refused}
 use Rattle.refusal.proofs.Checked.{accepted-injective, bind-elim}
 use Rattle.number.specs.Numbers.{Bytes, forms_of}
@@ -37,7 +39,6 @@ use Rattle.replies.specs.Plans.{plan_program}
 use Rattle.replies.proofs.Prefix.{plan-buffer}
 use Rattle.join.specs.Join.{joint_dark, joined_pack, check_packs, join}
 use Rattle.join.specs.Answers.{JoinDone}
-use Rattle.join.specs.declared.Joined.{Joined}
 use Rattle.join.proofs.Listed.{all_nodes, dark-split, dark-counted}
 use Rattle.join.proofs.Whole.{joined-from, join-accepted}
 use Rattle.promises.proofs.Planned.{Kept, demand-3-written}
@@ -181,7 +182,7 @@ h-joined-in-service files output p some e =
     )
 
 -- "and gives kind 4", for packs of any kind: the output then begins with 4, the joined n and r, and the joined list.
-pub h-joined-kind : (files : List (List ℕ)) (p : Pack) (out out-left : List ℕ) (given : Joined) → join files (length out) ≡ accepted p
+pub h-joined-kind : (files : List (List ℕ)) (p : Pack) (out out-left : List ℕ) (given : Result ℕ Refusal) → join files (length out) ≡ accepted p
     → JoinDone (join files (length out)) out out-left given
     → take (length (listed_start 4 p.n p.r p.dark)) out-left ≡ listed_start 4 p.n p.r p.dark
 unfolding bytes_of_pack list_numbers

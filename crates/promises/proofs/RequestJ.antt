@@ -3,6 +3,7 @@
 -- `j-short-output` are for placements of kinds 2, 3 and 5, whose nodes fail; those of kind 6, whose feeders fail, are in `RequestN`.
 -- Assumes nothing.
 use Prim.Native.Nat.{ℕ, ◌*◌, ◌≤◌, ◌<◌}
+use Rattle.std.specs.Prelude.{Result}
 use native.Mathlib.Omega.{arith}
 use mathlib.Core.Path.{◌≡◌, refl, sym, ◌∙◌, ap, subst}
 use mathlib.Core.Bool.{Bool}
@@ -13,6 +14,7 @@ use lib.Dec.{T, leb}
 use borrow.Author.Tests.{le-leb, lt-leb}
 use Rattle.refusal.specs.Refusals.{result, refusal}
 use Rattle.refusal.specs.declared.Refusal.TheVariants.{ShortOutput, TooManySets}
+use Rattle.refusal.specs.declared.Refusal.{Refusal}
 use Rattle.refusal.specs.Checked.{Checked, accepted, refused, ◌>>=◌, require, map_accepted, outcome}
 use Rattle.refusal.specs.Agree.{Agree, both-accepted, both-refused}
 use Rattle.binomial.specs.Choose.{choose}
@@ -26,7 +28,6 @@ use Rattle.placement.specs.Answers.{placement_checked, placement_outcome}
 use Rattle.placement.proofs.Units.{figure_at-holds, figure_at-planned}
 use Rattle.worst.specs.Worst.{Worst, few_sets, worst_of, check_worst, Before}
 use Rattle.worst.specs.Answers.{worst_answer, worst_outcome, WorstDone}
-use Rattle.worst.specs.declared.WorstCase.{WorstCase}
 use Rattle.worst.proofs.Exact.{TrueWorst}
 use Rattle.worst.proofs.Good.{worst-of-good}
 use Rattle.promises.proofs.Says.{not-both}
@@ -40,7 +41,7 @@ j-answer (refused e) = refl
 
 -- What is promised of a call on an accepted placement of which m can fail, n nodes or (n) g feeders, and whose b records are `rows` as
 -- lists of these. It was lent `out`, left `out-left` in it and answered `given`.
-pub record WorstKept (m : ℕ) (rows : List (List ℕ)) (s k figure : ℕ) (out out-left : List ℕ) (given : WorstCase) : Type 0 where
+pub record WorstKept (m : ℕ) (rows : List (List ℕ)) (s k figure : ℕ) (out out-left : List ℕ) (given : Result ℕ Refusal) : Type 0 where
   -- "the exact number of definition 1 in the paper": it is answered
   pub number : ℕ
   pub answered : worst_outcome given ≡ result (number ∷ [])
@@ -90,7 +91,7 @@ worst-by {s = s} {k = k} {m = m} fails =
       first = λ other f a before. rw (fails.leaves (λ v. member v other)) at (w.first other f a before);
     }
 
-module _ (bytes out out-left : List ℕ) (given : WorstCase) (done : WorstDone (check_worst bytes (length out)) out out-left given) where
+module _ (bytes out out-left : List ℕ) (given : Result ℕ Refusal) (done : WorstDone (check_worst bytes (length out)) out out-left given) where
   -- the same in the terms of the accepted placement
   worst-done : (file : Located Placement) → read_placement bytes ≡ accepted file
       → choose (units file.content) file.content.k * file.content.b ≤ 16_777_216 → file.content.k ≤ length out
@@ -209,7 +210,7 @@ worst-agree : (output : ℕ) {c d : Checked (Located Placement)} → Agree SameC
 worst-agree output (both-accepted {a} {b} e) = rw e (same (rest_of output b.content))
 worst-agree output (both-refused e) = both-refused e
 
-done-agree : {c d : Checked Worst} {out left left' : List ℕ} {given given' : WorstCase} → Agree (λ worst other. worst ≡ other) c d
+done-agree : {c d : Checked Worst} {out left left' : List ℕ} {given given' : Result ℕ Refusal} → Agree (λ worst other. worst ≡ other) c d
     → WorstDone c out left given → WorstDone d out left' given'
     → SameAnswer 1 (worst_outcome given) (worst_outcome given') × (left ≡ left')
 done-agree (both-accepted e) x y =
@@ -218,7 +219,7 @@ done-agree (both-refused e) x y = (rw (x.answer, y.answer) (refusals e), x.outpu
 
 -- Two files with the same content, as those that differ only in padding have (`b-same-placement`): the same number and the same
 -- set, or refusals with the same number.
-pub j-padded : (bytes other out left left' : List ℕ) (given given' : WorstCase)
+pub j-padded : (bytes other out left left' : List ℕ) (given given' : Result ℕ Refusal)
     → Agree SameContent (read_placement bytes) (read_placement other)
     → WorstDone (check_worst bytes (length out)) out left given → WorstDone (check_worst other (length out)) out left' given'
     → SameAnswer 1 (worst_outcome given) (worst_outcome given') × (left ≡ left')

@@ -2,6 +2,7 @@
 -- `rounds_code::rounds` ensures of its answer. `k-rounds` and `k-then-18` are for placements of kinds 2, 3 and 5, whose nodes fail; those
 -- of kind 6, whose feeders fail, are in `RequestN`. Assumes nothing.
 use Prim.Native.Nat.{ℕ, suc, ◌+◌, ◌-◌, ◌≤◌, ◌<◌}
+use Rattle.std.specs.Prelude.{Result}
 use native.Mathlib.Omega.{arith}
 use mathlib.Core.Path.{◌≡◌, refl, sym, ◌∙◌, ap, subst}
 use mathlib.Core.Logic.{◌⊎◌, inl, inr}
@@ -13,7 +14,7 @@ use borrow.Author.Tests.{le-leb}
 use Rattle.lists.specs.Lists.{All, count, up_to}
 use Rattle.lists.proofs.Tests.{true-T, T-not-false}
 use Rattle.refusal.specs.declared.Refusal.TheVariants.{BadRounds}
-use Rattle.refusal.specs.declared.Writing.{Writing}
+use Rattle.refusal.specs.declared.Refusal.{Refusal}
 use Rattle.refusal.specs.Refusals.{result, refusal}
 use Rattle.refusal.specs.Checked.{Checked, accepted, refused, outcome, WritingDone}
 use Rattle.packing.specs.Rows.{Row, records_in}
@@ -27,7 +28,6 @@ use Rattle.placement.specs.Answers.{placement_checked, placement_outcome}
 use Rattle.placement.proofs.Units.{unit-rows-are, figure_at-holds}
 use Rattle.placement.proofs.FeederRows.{unit-heads}
 use Rattle.curve.specs.Curve.{check_curve}
-use Rattle.rounds.specs.declared.RoundsAnswer.{RoundsAnswer}
 use Rattle.rounds.specs.Game.{none_failed, mended, cut, crew, storm, rounds}
 use Rattle.rounds.specs.Rounds.{rounds_taken, rounds_of, check_rounds}
 use Rattle.rounds.specs.Answers.{rounds_answer, rounds_outcome}
@@ -45,7 +45,7 @@ k-answer (refused e) = refl
 
 -- What is promised of a call on an accepted placement of which m can fail, n nodes or (n) g feeders, and whose b records are `rows` as
 -- lists of these, within the limits, that answered `given`.
-pub record RoundsKept (m : ℕ) (rows : List (List ℕ)) (s b q : ℕ) (bytes : List ℕ) (given : RoundsAnswer) : Type 0 where
+pub record RoundsKept (m : ℕ) (rows : List (List ℕ)) (s b q : ℕ) (bytes : List ℕ) (given : Result ℕ Refusal) : Type 0 where
   -- "Give that number.": the game's, on the b records
   pub number : ℕ
   pub answered : rounds_outcome given ≡ result (number ∷ [])
@@ -57,7 +57,7 @@ pub record RoundsKept (m : ℕ) (rows : List (List ℕ)) (s b q : ℕ) (bytes : 
   pub worst-size : Failure m (suc q) worst
   pub worst-left : usable s rows worst ≡ number
   -- "For q+1 from s to n-1 it is at least the curve's figure for q+1 failures": the entry that a call of the curve writes for them
-  pub at_least : s ≤ suc q → suc q < m → (out out-left : List ℕ) (curve : Writing) → m - s ≤ length out
+  pub at_least : s ≤ suc q → suc q < m → (out out-left : List ℕ) (curve : Result ℕ Refusal) → m - s ≤ length out
       → WritingDone (check_curve bytes (length out)) out out-left curve → get_or out-left (suc q - s) 0 ≤ number
   -- "If q+1 is below s it is b."
   pub whole : suc q < s → number ≡ b
@@ -67,7 +67,7 @@ within-taken : (n b q : ℕ) → Limits n b q → rounds_taken n b q ≡ true
 within-taken n b q l =
     rw (le-leb 1 q l.least, le-leb q 3 l.most, le-leb n 10 l.few, le-leb (q + 2) n l.room, le-leb b 256 l.records)
 
-module _ (bytes : List ℕ) (q : ℕ) (given : RoundsAnswer) (done : given ≡ rounds_answer (check_rounds bytes q)) where
+module _ (bytes : List ℕ) (q : ℕ) (given : Result ℕ Refusal) (done : given ≡ rounds_answer (check_rounds bytes q)) where
   -- whatever can fail
   pub rounds-kept : {kind n r s k b figure first m : ℕ} {rows : List (List ℕ)} → Fails bytes kind n r s k b figure first m rows
       → Limits m b q → RoundsKept m rows s b q bytes given

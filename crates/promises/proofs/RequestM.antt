@@ -1,6 +1,7 @@
 -- Document 02, (m): "The cabinet page", as theorems over the call's own contract: `WritingDone` of `check_page` is what
 -- `page_code::page` ensures of its answer and of the slice that it was lent. Assumes nothing.
 use Prim.Native.Nat.{ℕ, ◌+◌, ◌*◌, ◌≤◌, ◌<◌}
+use Rattle.std.specs.Prelude.{Result}
 use native.Mathlib.Omega.{arith}
 use mathlib.Core.Path.{◌≡◌, refl, sym, ◌∙◌, ap, subst}
 use mathlib.Core.Bool.{Bool, true, false}
@@ -12,7 +13,7 @@ use lib.Dec.{ltb}
 use borrow.Author.Tests.{le-leb, lt-leb, ltb-true, ltb-false}
 use Rattle.lists.proofs.UpTo.{get_d-map-up_to}
 use Rattle.refusal.specs.declared.Refusal.TheVariants.{ShortOutput}
-use Rattle.refusal.specs.declared.Writing.{Writing}
+use Rattle.refusal.specs.declared.Refusal.{Refusal}
 use Rattle.refusal.specs.Refusals.{result, refusal}
 use Rattle.refusal.specs.Checked.{Checked, accepted, refused, writing_outcome, WritingDone}
 use Rattle.packing.specs.Rows.{record_at}
@@ -53,7 +54,7 @@ pub record Kept (figure b : ℕ) (line : List ℕ) : Type 0 where
   pub blank : take 9 (drop 17 line) ≡ blanks 9
 
 -- What is promised of a call on an accepted placement that was lent `out`, left `out-left` in it and answered `given`.
-pub record PageKept (r s b figure first : ℕ) (bytes out out-left : List ℕ) (given : Writing) : Type 0 where
+pub record PageKept (r s b figure first : ℕ) (bytes out out-left : List ℕ) (given : Result ℕ Refusal) : Type 0 where
   -- "the total length is 27 × (b+1)"; (c) "A call that only writes answers the bytes or entries written."
   pub answered : writing_outcome given ≡ result ((27 * (b + 1)) ∷ [])
   -- the slice begins with the placement's page
@@ -131,7 +132,7 @@ r-same : (file : Located Placement) {kind n r : ℕ} {more : List ℕ}
     → placement_outcome (placement_checked (accepted file)) ≡ result (kind ∷ n ∷ r ∷ more) → file.content.r ≡ r
 r-same file e = cc
 
-module _ (bytes out out-left : List ℕ) (given : Writing) (done : WritingDone (check_page bytes (length out)) out out-left given) where
+module _ (bytes out out-left : List ℕ) (given : Result ℕ Refusal) (done : WritingDone (check_page bytes (length out)) out out-left given) where
   -- the same in the terms of the accepted placement
   page-done : (file : Located Placement) → read_placement bytes ≡ accepted file
       → page_length file.content.b ≤ length out

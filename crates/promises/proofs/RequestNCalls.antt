@@ -4,12 +4,12 @@
 -- replicas are counted through the feeders of their nodes is `n-through`. The checker's refusals come first in each, whatever the kind:
 -- `c-checker-first`, `j-checker-first`, `k-checker-first`, `l-checker-first`. Assumes nothing.
 use Prim.Native.Nat.{ℕ, suc, ◌+◌, ◌*◌, ◌-◌, ◌≤◌, ◌<◌}
+use Rattle.std.specs.Prelude.{Result}
 use mathlib.Core.Path.{◌≡◌, sym, ◌∙◌, ap}
 use mathlib.Core.Logic.{◌⊎◌}
 use mathlib.Core.Bool.{Bool}
 use mathlib.Core.List.{List, [], ◌∷◌}
 use lib.ListN.{length, get_or, take}
-use Rattle.refusal.specs.declared.Writing.{Writing}
 use Rattle.refusal.specs.Refusals.{result, refusal}
 use Rattle.refusal.specs.Checked.{accepted, writing_outcome, WritingDone}
 use Rattle.binomial.specs.Choose.{choose}
@@ -20,8 +20,6 @@ use Rattle.placement.specs.Answers.{placement_checked, placement_outcome}
 use Rattle.curve.specs.Curve.{check_curve}
 use Rattle.worst.specs.Worst.{check_worst}
 use Rattle.worst.specs.Answers.{worst_outcome, WorstDone}
-use Rattle.worst.specs.declared.WorstCase.{WorstCase}
-use Rattle.rounds.specs.declared.RoundsAnswer.{RoundsAnswer}
 use Rattle.rounds.specs.Rounds.{check_rounds}
 use Rattle.rounds.specs.Answers.{rounds_answer, rounds_outcome}
 use Rattle.rounds.proofs.Checking.{Limits}
@@ -39,6 +37,7 @@ use Rattle.promises.proofs.RequestC.{CurveKept, curve-kept, curve-short}
 use Rattle.promises.proofs.RequestJ.{WorstKept, worst-kept, worst-too-many, worst-short}
 use Rattle.promises.proofs.RequestK.{RoundsKept, rounds-kept, rounds-18}
 use Rattle.promises.proofs.RequestL.{ReplayKept, down_at, replay-kept, replay-never-lower, replay-accepted, replay-earlier, replay-bad-event}
+use Rattle.refusal.specs.declared.Refusal.{Refusal}
 
 -- a record that is usable as a list of feeders is usable when just the nodes on the failed feeders fail
 pub n-through : (each : List ℕ) (s : ℕ) (records : List (List ℕ)) (failed : ℕ → Bool)
@@ -49,7 +48,7 @@ module _ (bytes : List ℕ) {n r s k b figure first g : ℕ} {values each : List
     (e : placement_outcome (placement_checked (read_placement bytes)) ≡ result (6 ∷ n ∷ r ∷ s ∷ k ∷ b ∷ figure ∷ first ∷ values))
     (at : FeedersAt bytes (first + b * r) n g each) where
   -- "the curve ends at g-1 and has g - s numbers": each holds whichever k' feeders fail
-  module _ (out out-left : List ℕ) (given : Writing) (done : WritingDone (check_curve bytes (length out)) out out-left given) where
+  module _ (out out-left : List ℕ) (given : Result ℕ Refusal) (done : WritingDone (check_curve bytes (length out)) out out-left given) where
     pub n-curve : g - s ≤ length out → CurveKept g (on_feeders each (records_in bytes first r b)) s k figure bytes out out-left given
     n-curve = curve-kept bytes out out-left given done (feeders-fail bytes e at)
 
@@ -57,7 +56,7 @@ module _ (bytes : List ℕ) {n r s k b figure first g : ℕ} {values each : List
     n-curve-short = curve-short bytes out out-left given done (feeders-fail bytes e at)
 
   -- "exact count": the fewest usable records over all sets of k feeders, and the first such set
-  module _ (out out-left : List ℕ) (given : WorstCase) (done : WorstDone (check_worst bytes (length out)) out out-left given) where
+  module _ (out out-left : List ℕ) (given : Result ℕ Refusal) (done : WorstDone (check_worst bytes (length out)) out out-left given) where
     pub n-worst : choose g k * b ≤ 16_777_216 → k ≤ length out
         → WorstKept g (on_feeders each (records_in bytes first r b)) s k figure out out-left given
     n-worst = worst-kept bytes out out-left given done (feeders-fail bytes e at)
@@ -69,7 +68,7 @@ module _ (bytes : List ℕ) {n r s k b figure first g : ℕ} {values each : List
     n-worst-short = worst-short bytes out out-left given done (feeders-fail bytes e at)
 
   -- "rounds": the storm takes two working feeders down, the crew brings one back; "g for n" in the limits too
-  module _ (q : ℕ) (given : RoundsAnswer) (done : given ≡ rounds_answer (check_rounds bytes q)) where
+  module _ (q : ℕ) (given : Result ℕ Refusal) (done : given ≡ rounds_answer (check_rounds bytes q)) where
     pub n-rounds : Limits g b q → RoundsKept g (on_feeders each (records_in bytes first r b)) s b q bytes given
     n-rounds = rounds-kept bytes q given done (feeders-fail bytes e at)
 

@@ -1,12 +1,11 @@
 -- Laws of the order of checks: what is accepted has passed every check. Assumes nothing.
+use Rattle.std.specs.Prelude.{⊤, Result, Ok, Err}
 use mathlib.Core.Path.{◌≡◌, refl, ◌∙◌, ap}
 use mathlib.Core.Logic.{◌↔◌}
 use mathlib.Core.Bool.{Bool, true, false}
 use Prim.Native.Nat.{ℕ}
 use native.Mathlib.Omega.{arith}
 use Rattle.refusal.specs.declared.Refusal.{Refusal}
-use Rattle.refusal.specs.declared.Verdict.{Verdict}
-use Rattle.refusal.specs.declared.Verdict.TheVariants.{Good, Refused}
 use Rattle.refusal.specs.Checked.{Checked, accepted, refused, ◌>>=◌, require, verdict, map_accepted}
 
 module _ {A : Type 0} where
@@ -17,11 +16,11 @@ module _ {A : Type 0} where
   refused-not-accepted p = let z : ◌≡◌ {A = ℕ} 0 1 = cc in omega arith
 
   -- what the code's verdict says of the check
-  pub verdict-good : (m : Checked A) {v : Verdict} → v ≡ verdict m → v ≡ Good → (a : A) × (m ≡ accepted a)
+  pub verdict-good : (m : Checked A) {v : Result ⊤ Refusal} → v ≡ verdict m → v ≡ Ok tt → (a : A) × (m ≡ accepted a)
   verdict-good (accepted a) is good = (a, refl)
   verdict-good (refused e) is good = absurd (let z : ◌≡◌ {A = ℕ} 0 1 = cc in omega arith)
 
-  pub verdict-refused : (m : Checked A) {v : Verdict} {e : Refusal} → v ≡ verdict m → v ≡ Refused e → m ≡ refused e
+  pub verdict-refused : (m : Checked A) {v : Result ⊤ Refusal} {e : Refusal} → v ≡ verdict m → v ≡ Err e → m ≡ refused e
   verdict-refused (accepted a) is why = cc
   verdict-refused (refused e) is why = cc
 

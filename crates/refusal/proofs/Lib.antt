@@ -1,3 +1,4 @@
 pub mod Checked
 pub mod Agree
 pub mod Worked
+pub mod Answered

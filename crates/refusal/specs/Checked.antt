@@ -1,11 +1,7 @@
 -- A result or a refusal, and the order of checks: the first refusal met is the answer. Assumes nothing.
-use Rattle.std.specs.Prelude.{ℕ, ◌≡◌, Bool, true, false, List, [], ◌∷◌, length}
+use Rattle.std.specs.Prelude.{ℕ, ◌≡◌, Bool, true, false, List, [], ◌∷◌, length, ⊤, Result, Ok, Err}
 use Rattle.lists.specs.Lists.{over_start}
 use Rattle.refusal.specs.declared.Refusal.{Refusal}
-use Rattle.refusal.specs.declared.Verdict.{Verdict}
-use Rattle.refusal.specs.declared.Verdict.TheVariants.{Good, Refused}
-use Rattle.refusal.specs.declared.Writing.{Writing}
-use Rattle.refusal.specs.declared.Writing.TheVariants.{Written, Refused as NotWritten}
 use Rattle.refusal.specs.Refusals.{Outcome, result, refusal_outcome}
 
 -- Demand 1: "finishes with a result or a numbered refusal and its place".
@@ -40,27 +36,32 @@ abbrev pub outcome : {A : Type 0} → (A → List ℕ) → Checked A → Outcome
 outcome values (accepted a) = result (values a)
 outcome values (refused e) = refusal_outcome e
 
--- what a check says, as a value of the code's enum
-abbrev pub verdict : {A : Type 0} → Checked A → Verdict
-verdict (accepted a) = Good
-verdict (refused e) = Refused e
+-- what a call gives: f of what is accepted, or the refusal
+abbrev pub answered : {A B : Type 0} → (A → B) → Checked A → Result B Refusal
+answered f (accepted a) = Ok (f a)
+answered f (refused e) = Err e
+
+-- what a check says, as a value of the code's type
+abbrev pub verdict : {A : Type 0} → Checked A → Result ⊤ Refusal
+verdict (accepted a) = Ok tt
+verdict (refused e) = Err e
 
 -- a good one has no value of its own
-abbrev pub verdict_outcome : Verdict → Outcome
-verdict_outcome Good = result []
-verdict_outcome (Refused e) = refusal_outcome e
+abbrev pub verdict_outcome : Result ⊤ Refusal → Outcome
+verdict_outcome (Ok tt) = result []
+verdict_outcome (Err e) = refusal_outcome e
 
--- Document 02, (c): "A call that only writes answers the bytes or entries written", as a value of the code's enum
-abbrev pub writing : Checked (List ℕ) → Writing
-writing (accepted elements) = Written (length elements)
-writing (refused e) = NotWritten e
+-- Document 02, (c): "A call that only writes answers the bytes or entries written", as a value of the code's type
+abbrev pub writing : Checked (List ℕ) → Result ℕ Refusal
+writing (accepted elements) = Ok (length elements)
+writing (refused e) = Err e
 
 -- its value is the number of bytes or entries
-abbrev pub writing_outcome : Writing → Outcome
-writing_outcome (Written n) = result (n ∷ [])
-writing_outcome (NotWritten e) = refusal_outcome e
+abbrev pub writing_outcome : Result ℕ Refusal → Outcome
+writing_outcome (Ok n) = result (n ∷ [])
+writing_outcome (Err e) = refusal_outcome e
 
 -- what a call that only writes gives, and leaves in the slice that it was lent
-pub record WritingDone (wrote : Checked (List ℕ)) (out out-left : List ℕ) (given : Writing) : Type 0 where
+pub record WritingDone (wrote : Checked (List ℕ)) (out out-left : List ℕ) (given : Result ℕ Refusal) : Type 0 where
   pub answer : given ≡ writing wrote
   pub output-after : out-left ≡ written wrote out

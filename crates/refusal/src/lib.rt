@@ -47,17 +47,3 @@ pub enum Refusal {
     // A row with two nodes on one feeder: its start.
     SharedFeeder(usize),
 }
-
-// What a check says: all is good, or the refusal.
-#[derive(Clone, Copy)]
-pub enum Verdict {
-    Good,
-    Refused(Refusal),
-}
-
-// What a call that only writes answers: how many bytes or entries were written, or the refusal.
-#[derive(Clone, Copy)]
-pub enum Writing {
-    Written(usize),
-    Refused(Refusal),
-}

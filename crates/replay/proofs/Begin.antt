@@ -1,6 +1,7 @@
 -- Before the first event: the placement is checked, and its records are listed on a board of zeros, by node or, in kind 6, by feeder.
 -- Assumes nothing.
 use Prim.Native.Nat.{ℕ, zero, suc, ◌+◌, ◌-◌, ◌*◌, ◌≤◌, ◌<◌}
+use Rattle.std.specs.Prelude.{Ok, Err}
 use native.Mathlib.Omega.{arith}
 use mathlib.Core.Path.{◌≡◌, refl, sym, ◌∙◌, ap, ap₂, subst}
 use mathlib.Core.Bool.{Bool, true, false, not, ◌&&◌}
@@ -28,7 +29,6 @@ use Rattle.placement.specs.Units.{units, unit_rows}
 use Rattle.placement.specs.Answers.{table_of, rows_by_table, placement_head, placement_checked}
 use Rattle.placement.specs.declared.PlacementHead.{PlacementHead}
 use Rattle.placement.specs.declared.PlacementCheck.{PlacementCheck}
-use Rattle.placement.specs.declared.PlacementAnswer.TheVariants.{Accepted, Refused as NotAccepted}
 use Rattle.placement.proofs.Rows.{RowsIn, rows_in}
 use Rattle.placement.proofs.Units.{unit-rows-are}
 use Rattle.placement.proofs.TableRows.{UnitsIn, units-within, plain-units, fed-units}
@@ -197,7 +197,7 @@ module _ (bytes : List ℕ) (file : Located Placement) (e : read_placement bytes
 
 -- what the answer of the check says
 module _ (bytes : List ℕ) {check : PlacementCheck} (is : check ≡ placement_checked (read_placement bytes)) where
-  pub begun-refused : {why : Refusal} (board : List ℕ) → length board ≡ 25_089 → check.answer ≡ NotAccepted why
+  pub begun-refused : {why : Refusal} (board : List ℕ) → length board ≡ 25_089 → check.answer ≡ Err why
       → Begun bytes board (record { n = 0; s = 0; b = 0; time = 0; usable = 0; answer = Refused why })
   unfolding check_replay check_placement
   begun-refused {why} board long a =
@@ -207,7 +207,7 @@ module _ (bytes : List ℕ) {check : PlacementCheck} (is : check ≡ placement_c
       }
 
   module _ {head : PlacementHead} (zeros index : List ℕ) (long : length zeros ≡ 25_089) (none-set : (q : ℕ) → get_or zeros q 0 ≡ 0)
-      (size : length index ≡ 20_737) (a : check.answer ≡ Accepted head) where
+      (size : length index ≡ 20_737) (a : check.answer ≡ Ok head) where
     begun-by : (m : ℕ) (rows : List ℕ) → RowsAsked (record { n = m; r = head.r }) (order_of head) rows → Told bytes head m rows
         → IndexOf (rows_at head.r head.b rows) index
         → Begun bytes (index ++ drop 20_737 zeros)

@@ -1,5 +1,6 @@
 -- An event more: it is passed over, refused, or replayed. Assumes nothing.
 use Prim.Native.Nat.{ℕ, suc, ◌≤◌, ◌<◌}
+use Rattle.std.specs.Prelude.{Ok, Err}
 use native.Mathlib.Omega.{arith}
 use mathlib.Core.Path.{◌≡◌, refl, sym, ◌∙◌, ap, subst}
 use mathlib.Core.Bool.{Bool, true, false, cond, not, ◌&&◌}
@@ -8,7 +9,6 @@ use lib.Dec.{T, leb, ltb}
 use borrow.Author.Tests.{ltb-true, lt-ltb, le-ltb, leb-true, le-leb, lt-leb}
 use Rattle.refusal.specs.declared.Refusal.{Refusal}
 use Rattle.refusal.specs.declared.Refusal.TheVariants.{EarlierEvent, BadEvent}
-use Rattle.refusal.specs.declared.Verdict.TheVariants.{Good, Refused as NotGood}
 use Rattle.refusal.specs.Checked.{Checked, accepted, refused, ◌>>=◌, require, verdict}
 use Rattle.replay.specs.declared.Event.{Event}
 use Rattle.replay.specs.declared.Progress.{Progress}
@@ -17,16 +17,16 @@ use Rattle.replay.specs.declared.Replayed.TheVariants.{Lowest, Quiet, Refused}
 use Rattle.replay.specs.Log.{changes, check_event}
 use Rattle.replay.specs.Board.{lowered_to, one_pass, index_of, down_of, value_by, running, Counting, Standing, Stepped, Moved}
 
-good-accepted : (m : Checked Unit) → Good ≡ verdict m → m ≡ accepted tt
+good-accepted : (m : Checked Unit) → Ok tt ≡ verdict m → m ≡ accepted tt
 good-accepted (accepted x) e = refl
 good-accepted (refused why) e = absurd (let z : ◌≡◌ {A = ℕ} 0 1 = cc in omega arith)
 
-refused-is : (m : Checked Unit) {why : Refusal} → NotGood why ≡ verdict m → m ≡ refused why
+refused-is : (m : Checked Unit) {why : Refusal} → Err why ≡ verdict m → m ≡ refused why
 refused-is (accepted x) e = absurd (let z : ◌≡◌ {A = ℕ} 0 1 = cc in omega arith)
 refused-is (refused e) why = cc
 
 -- both tests of an event pass
-both-pass : (a b : Bool) (x y : Refusal) → Good ≡ verdict (require a x >>= λ _. require b y) → (a ≡ true) × (b ≡ true)
+both-pass : (a b : Bool) (x y : Refusal) → Ok tt ≡ verdict (require a x >>= λ _. require b y) → (a ≡ true) × (b ≡ true)
 both-pass true true x y e = (refl, refl)
 both-pass true false x y e = absurd (let z : ◌≡◌ {A = ℕ} 0 1 = cc in omega arith)
 both-pass false b x y e = absurd (let z : ◌≡◌ {A = ℕ} 0 1 = cc in omega arith)
@@ -42,7 +42,7 @@ pub record GoodEvent (n : ℕ) (down : ℕ → Bool) (e : Event) : Type 0 where
   pub was-up : e.down ≡ true → down e.node.0 ≡ false
   pub was-down : e.down ≡ false → down e.node.0 ≡ true
 
-pub good-event : (n i time : ℕ) (down : ℕ → Bool) (e : Event) → Good ≡ verdict (check_event n i time down e) → GoodEvent n down e
+pub good-event : (n i time : ℕ) (down : ℕ → Bool) (e : Event) → Ok tt ≡ verdict (check_event n i time down e) → GoodEvent n down e
 good-event n i time down e g =
     let passed = both-pass (leb time e.time) (ltb e.node.0 n && changes down e) (EarlierEvent i) (BadEvent i) g in
     let both = and_both (ltb e.node.0 n) (changes down e) passed.1 in
@@ -61,7 +61,7 @@ good-event n i time down e g =
     is_down true was h t = absurd (let z : ◌≡◌ {A = ℕ} 0 1 = cc in omega arith)
     is_down false was h t = h
 
-pub in-time-event : (n i time : ℕ) (down : ℕ → Bool) (e : Event) → Good ≡ verdict (check_event n i time down e) → time ≤ e.time
+pub in-time-event : (n i time : ℕ) (down : ℕ → Bool) (e : Event) → Ok tt ≡ verdict (check_event n i time down e) → time ≤ e.time
 in-time-event n i time down e g =
     leb-true time e.time (both-pass (leb time e.time) (ltb e.node.0 n && changes down e) (EarlierEvent i) (BadEvent i) g).0
 
@@ -75,18 +75,18 @@ not-false false e = sym e
 
 -- the code's tests give the check's verdict
 module _ (n i time : ℕ) (down : ℕ → Bool) (e : Event) where
-  pub event-earlier : e.time < time → NotGood (EarlierEvent i) ≡ verdict (check_event n i time down e)
+  pub event-earlier : e.time < time → Err (EarlierEvent i) ≡ verdict (check_event n i time down e)
   event-earlier h = rw (lt-leb time e.time h) refl
 
   module _ (in-time : time ≤ e.time) where
-    pub event-outside : n ≤ e.node.0 → NotGood (BadEvent i) ≡ verdict (check_event n i time down e)
+    pub event-outside : n ≤ e.node.0 → Err (BadEvent i) ≡ verdict (check_event n i time down e)
     event-outside h = rw (le-leb time e.time in-time, le-ltb e.node.0 n h) refl
 
     module _ (inside : e.node.0 < n) where
-      pub event-idle : changes down e ≡ false → NotGood (BadEvent i) ≡ verdict (check_event n i time down e)
+      pub event-idle : changes down e ≡ false → Err (BadEvent i) ≡ verdict (check_event n i time down e)
       event-idle h = rw (le-leb time e.time in-time, lt-ltb e.node.0 n inside, h) refl
 
-      pub event-fine : changes down e ≡ true → Good ≡ verdict (check_event n i time down e)
+      pub event-fine : changes down e ≡ true → Ok tt ≡ verdict (check_event n i time down e)
       event-fine h = rw (le-leb time e.time in-time, lt-ltb e.node.0 n inside, h) refl
 
 -- the answer so far after one event more
@@ -115,7 +115,7 @@ module _ (p : Progress) (board : List ℕ) (i : ℕ) (e : Event) (standing : Sta
     step-counting = standing.going (subst T (sym is-running) tt)
 
     -- the event is refused
-    pub step-refused : {why : Refusal} → NotGood why ≡ verdict (check_event p.n i p.time (down_of board) e)
+    pub step-refused : {why : Refusal} → Err why ≡ verdict (check_event p.n i p.time (down_of board) e)
         → Stepped p board i e board
         (record { n = p.n; s = p.s; b = p.b; time = p.time; usable = p.usable; answer = Refused why })
     unfolding one_pass
@@ -126,7 +126,7 @@ module _ (p : Progress) (board : List ℕ) (i : ℕ) (e : Event) (standing : Sta
         }
 
     -- its node changes its state
-    pub step-moved : {board' : List ℕ} {left : ℕ} {low : Replayed} → Good ≡ verdict (check_event p.n i p.time (down_of board) e)
+    pub step-moved : {board' : List ℕ} {left : ℕ} {low : Replayed} → Ok tt ≡ verdict (check_event p.n i p.time (down_of board) e)
         → Moved p board e.node.0 e.down board' left → low ≡ lowered_to left i p.answer
         → Stepped p board i e board' (record { n = p.n; s = p.s; b = p.b; time = e.time; usable = left; answer = low })
     unfolding one_pass

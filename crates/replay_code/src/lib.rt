@@ -1,21 +1,12 @@
 // Replaying an outage log: a walk over the lent events, whose step is replay_step's.
 #![tactic(auto)]
 
-ghost use Rattle.std.specs.Prelude.{◌≡◌, ◌<◌, length, get_or};
-ghost use Rattle.replay.specs.Log.{no_event};
+ghost use Rattle.std.specs.Prelude.{◌≡◌};
 ghost use Rattle.replay.specs.Replays.{check_replay};
 ghost use Rattle.replay.specs.Answers.{replay_answer};
 ghost use Rattle.replay.specs.Board.{rest, Standing};
 
 use replay::{Event, Progress, Replayed};
-
-// Event i of a log.
-fn event_at(events: &[Event], i: usize) -> Event
-    requires { i < length events.now }
-    ensures { result ≡ get_or events.now i no_event }
-{
-    events[i]
-}
 
 // Replays the events of a log, one after the other.
 fn run(start: Progress, events: &[Event], board: &mut [u16]) -> Progress
@@ -23,12 +14,8 @@ fn run(start: Progress, events: &[Event], board: &mut [u16]) -> Progress
     ensures { result.answer ≡ rest start board.old 0 events.now }
 {
     let mut progress = start;
-    let mut i: usize = 0;
-    while i < events.len() {
-        let event = event_at(events, i);
-        let next = replay_step::step(progress, i, event, board);
-        progress = next;
-        i += 1;
+    for (i, event) in events.iter().enumerate() {
+        progress = replay_step::step(progress, i, *event, board);
     }
     progress
 }

@@ -12,7 +12,7 @@ use worst::Entries;
 fn equal(a: usize, b: usize) -> usize
     ensures { result ≡ tally (eqb a b) 0 }
 {
-    if a == b { 1 } else { 0 }
+    usize::from(a == b)
 }
 
 // A node goes down: its records have one replica more on nodes that are down. Of `usable` records those are left that have
@@ -26,13 +26,11 @@ pub fn raise(s: usize, b: usize, usable: usize, entries: Entries, board: &mut [u
     let from = entries.from;
     let count = entries.count;
     let mut left = usable;
-    let mut seen: usize = 0;
-    while seen < count {
-        let i = board[from + seen] as usize;
+    for seen in 0..count {
+        let i = usize::from(board[from + seen]);
         let replicas = board[20_993 + i];
-        left -= equal(replicas as usize + 1, s);
+        left -= equal(usize::from(replicas) + 1, s);
         board[20_993 + i] = replicas + 1;
-        seen += 1;
     }
     left
 }
@@ -47,13 +45,11 @@ pub fn restore(s: usize, b: usize, usable: usize, entries: Entries, board: &mut 
     let from = entries.from;
     let count = entries.count;
     let mut left = usable;
-    let mut seen: usize = 0;
-    while seen < count {
-        let i = board[from + seen] as usize;
+    for seen in 0..count {
+        let i = usize::from(board[from + seen]);
         let replicas = board[20_993 + i];
-        left += equal(replicas as usize, s);
+        left += equal(usize::from(replicas), s);
         board[20_993 + i] = replicas - 1;
-        seen += 1;
     }
     left
 }

@@ -10,14 +10,14 @@ ghost use Rattle.console.specs.Counts.{IsPrefixLen};
 
 use console::Taken;
 use logs::TEXT_MOST;
-use report::{LINE_NEEDED, Reply};
+use report::LINE_NEEDED;
 
 // Puts what is written with so many arguments at the start of `out`, and answers its length: such a slice is never refused.
 fn reply(named: usize, log: &[u8], placement: &[u8], out: &mut [u8]) -> usize
     requires { line_needed ≤ length out.old }
     ensures { Replied (replay_reply named log.now placement.now) result out.old out.new }
 {
-    let Reply::Written(length) = reply_replay::replay_reply(named, log, placement, out) else {
+    let Ok(length) = reply_replay::replay_reply(named, log, placement, out) else {
         return 0;
     };
     length

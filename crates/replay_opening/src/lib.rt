@@ -8,7 +8,7 @@ ghost use Rattle.worst.specs.Asked.{FeedersAsked};
 ghost use Rattle.worst.specs.Records.{IndexOf};
 ghost use Rattle.replay.specs.Board.{Begun};
 
-use placement::{FeederTable, Order, PlacementAnswer};
+use placement::{FeederTable, Order};
 use replay::{Progress, Replayed};
 
 // Makes the index of rows of nodes by the feeders that they hang on.
@@ -34,7 +34,7 @@ pub fn begin(bytes: &[u8], board: &mut [u16]) -> Progress
     let answer = check.answer;
     let table = check.feeders;
     match answer {
-        PlacementAnswer::Refused(e) => Progress {
+        Err(e) => Progress {
             n: 0,
             s: 0,
             b: 0,
@@ -42,7 +42,7 @@ pub fn begin(bytes: &[u8], board: &mut [u16]) -> Progress
             usable: 0,
             answer: Replayed::Refused(e),
         },
-        PlacementAnswer::Accepted(head) => {
+        Ok(head) => {
             let n = head.n;
             let r = head.r;
             let s = head.s;

@@ -7,7 +7,7 @@ ghost use Rattle.replay.specs.Log.{check_event};
 ghost use Rattle.replay.specs.Board.{down_of, lowered_to, running, Standing, Stepped};
 
 use packing::Node;
-use refusal::{Refusal, Verdict};
+use refusal::Refusal;
 use replay::{Event, Progress, Replayed};
 use replay_moves::change;
 
@@ -15,11 +15,7 @@ use replay_moves::change;
 fn is_running(answer: Replayed) -> bool
     ensures { result ≡ running answer }
 {
-    match answer {
-        Replayed::Lowest(_, _) => true,
-        Replayed::Quiet(_) => true,
-        Replayed::Refused(_) => false,
-    }
+    !matches!(answer, Replayed::Refused(_))
 }
 
 // Whether a node is down.
@@ -27,34 +23,33 @@ fn is_down(board: &[u16], node: Node) -> bool
     requires { length board.now ≡ 25_089 }
     ensures { result ≡ down_of board.now node.0 }
 {
-    let v = node.0 as usize;
-    board[20_737 + v] > 0
+    board[20_737 + usize::from(node.0)] > 0
 }
 
 // Whether a node that was down or not changes its state where it then is down or not.
 fn differs(was: bool, down: bool) -> bool
     ensures { result ≡ cond down (not was) was }
 {
-    if down { !was } else { was }
+    was != down
 }
 
 // Checks event i, the one before it being at `time`: refuses with 19 or 20.
-fn check_event(n: usize, time: u32, i: usize, event: Event, board: &[u16]) -> Verdict
+fn check_event(n: usize, time: u32, i: usize, event: Event, board: &[u16]) -> Result<(), Refusal>
     requires { length board.now ≡ 25_089 }
     ensures { result ≡ verdict (check_event n i time (down_of board.now) event) }
 {
     let node = event.node;
     let down = event.down;
     if event.time < time {
-        return Verdict::Refused(Refusal::EarlierEvent(i));
+        return Err(Refusal::EarlierEvent(i));
     }
-    if node.0 as usize >= n {
-        return Verdict::Refused(Refusal::BadEvent(i));
+    if usize::from(node.0) >= n {
+        return Err(Refusal::BadEvent(i));
     }
     if !differs(is_down(board, node), down) {
-        return Verdict::Refused(Refusal::BadEvent(i));
+        return Err(Refusal::BadEvent(i));
     }
-    Verdict::Good
+    Ok(())
 }
 
 // The answer of the log so far after event i, which leaves `usable` records. It is made anew where it stays: to hand it on whole would
@@ -90,7 +85,7 @@ pub fn step(progress: Progress, i: usize, event: Event, board: &mut [u16]) -> Pr
     }
     let checked = check_event(n, before, i, event, board);
     match checked {
-        Verdict::Refused(e) => Progress {
+        Err(e) => Progress {
             n,
             s,
             b,
@@ -98,7 +93,7 @@ pub fn step(progress: Progress, i: usize, event: Event, board: &mut [u16]) -> Pr
             usable,
             answer: Replayed::Refused(e),
         },
-        Verdict::Good => {
+        Ok(()) => {
             let time = event.time;
             let left = change(progress, event.node, event.down, board);
             let low = lowered(answer, left, i);

@@ -1,5 +1,6 @@
 -- What a program that plans writes, from the answer of the call and what it left in the output. Assumes nothing.
 use Prim.Native.Nat.{ℕ}
+use Rattle.std.specs.Prelude.{Ok, Err}
 use native.Mathlib.Omega.{arith}
 use mathlib.Core.Path.{◌≡◌, ap}
 use mathlib.Core.List.{List}
@@ -9,7 +10,7 @@ use Rattle.refusal.specs.Checked.{Checked, accepted, refused}
 use Rattle.placement.specs.Placement.{Placement, placement_bytes}
 use Rattle.planner.specs.Planning.{output_after}
 use Rattle.planner.specs.Answers.{plan_answer}
-use Rattle.planner.specs.declared.PlanAnswer.TheVariants.{Planned, Refused}
+use Rattle.planner.specs.declared.PlannedFile.{PlannedFile}
 use Rattle.planner.specs.declared.PlanResult.{PlanResult}
 use Rattle.report.specs.Programs.{refused_line}
 use Rattle.report.specs.Replies.{Replied}
@@ -22,19 +23,19 @@ module _ (planned : Checked Placement) (before : List ℕ) {between : List ℕ} 
   answer-is = ap (λ r. r.answer) is
 
   -- a placement stands at the output's start already
-  pub planned-text : {size figure : ℕ} → result.answer ≡ Planned size figure → Replied (planned_reply planned) size before between
+  pub planned-text : {made : PlannedFile} → result.answer ≡ Ok made → Replied (planned_reply planned) made.length before between
   unfolding planned_reply
-  planned-text {size} {figure} a = go planned answer-is left
+  planned-text {made} a = go planned answer-is left
     where
       go : (o : Checked Placement) → result.answer ≡ (plan_answer o).answer → between ≡ output_after o before
-          → Replied (planned_reply o) size before between
+          → Replied (planned_reply o) made.length before between
       go (accepted p) e w =
-          let same : size ≡ length (placement_bytes p) = cc in
-          replied-of (placement_bytes p) size before between same w
+          let same : made ≡ record { length = length (placement_bytes p); figure = p.figure } = cc in
+          replied-of (placement_bytes p) made.length before between (ap (λ m. m.length) same) w
       go (refused why) e w = absurd (let z : ◌≡◌ {A = ℕ} 0 1 = cc in omega arith)
 
   -- a refusal's line is written into the output as it was
-  pub refused-text : {why : Refusal} {after : List ℕ} {next : ℕ} → result.answer ≡ Refused why
+  pub refused-text : {why : Refusal} {after : List ℕ} {next : ℕ} → result.answer ≡ Err why
       → Replied (refused_line why) next between after → Replied (planned_reply planned) next before after
   unfolding planned_reply
   refused-text {why} {after} {next} a line = go planned answer-is left

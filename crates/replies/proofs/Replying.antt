@@ -1,5 +1,6 @@
 -- What a program answers, from the numbers that it was given; and replies in slices of any length. Assumes nothing.
 use Prim.Native.Nat.{ℕ, ◌-◌, ◌≤◌, ◌<◌}
+use Rattle.std.specs.Prelude.{Ok, Err}
 use mathlib.Core.Path.{◌≡◌, refl, sym, ap, ◌∙◌}
 use mathlib.Core.List.{List}
 use lib.ListN.{length, take, drop}
@@ -11,7 +12,6 @@ use Rattle.refusal.specs.Checked.{accepted}
 use Rattle.report.specs.Programs.{refused_line}
 use Rattle.report.specs.Replies.{Replied}
 use Rattle.report.specs.Answers.{ReplyDone}
-use Rattle.report.specs.declared.Reply.TheVariants.{Written, Refused}
 use Rattle.text.specs.declared.TextRefusal.TheVariants.{Arguments}
 use Rattle.text.specs.declared.GivenEnd.{GivenEnd}
 use Rattle.text.specs.declared.GivenEnd.TheVariants.{File, Unread, Extra}
@@ -51,15 +51,15 @@ file-inside count arguments input is e = (given-place count arguments input (sym
 -- Replies in slices: refused exactly where a slice is too short.
 module _ (needed : ℕ) (reply before : List ℕ) where
   pub into-refused : length before < needed
-      → ReplyDone (into needed reply (length before)) before before (Refused (ShortOutput needed))
+      → ReplyDone (into needed reply (length before)) before before (Err (ShortOutput needed))
   unfolding into
   into-refused short = rw (lt-leb needed (length before) short) (record { answer = refl; output-after = refl })
 
   pub into-written : {n : ℕ} {after : List ℕ} → needed ≤ length before → Replied reply n before after
-      → ReplyDone (into needed reply (length before)) before after (Written n)
+      → ReplyDone (into needed reply (length before)) before after (Ok n)
   unfolding into
   into-written enough r =
-      rw (le-leb needed (length before) enough) (record { answer = ap Written r.answered; output-after = r.written })
+      rw (le-leb needed (length before) enough) (record { answer = ap Ok r.answered; output-after = r.written })
 
 -- in a slice as long as that of a program its reply is never refused
 pub into-enough : (needed : ℕ) (reply : List ℕ) (output : ℕ) → needed ≤ output → into needed reply output ≡ accepted reply

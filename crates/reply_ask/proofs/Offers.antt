@@ -1,5 +1,6 @@
 -- What `ask` prints, from the answer of the call. Assumes nothing.
 use Prim.Native.Nat.{ℕ, ◌≤◌}
+use Rattle.std.specs.Prelude.{Ok, Err}
 use native.Mathlib.Omega.{arith}
 use mathlib.Core.Path.{◌≡◌, refl, ◌∙◌, ap}
 use mathlib.Core.List.{List, [], ◌∷◌, ◌++◌}
@@ -10,7 +11,6 @@ use Rattle.layers.specs.Answers.{five}
 use Rattle.placement.specs.declared.Order.{Order}
 use Rattle.planner.specs.Planning.{work_most}
 use Rattle.commit.specs.Asking.{Offer, offer_values, ask, ask_answer, AskDone}
-use Rattle.commit.specs.declared.AskAnswer.TheVariants.{Offered, Refused}
 use Rattle.commit.specs.declared.AskResult.{AskResult}
 use Rattle.report.specs.Programs.{rest, refused_line, or_refused_line}
 use Rattle.call_replies.specs.Committing.{offered_word, offered_line, ask_text}
@@ -39,7 +39,7 @@ module _ (pack : List ℕ) (order : Order) {work worked : List ℕ} {result : As
   answered : result ≡ ask_answer (ask pack order work_most)
   answered = done.answer ∙ ap ask_answer (ask-most pack order (length work) entries)
 
-  pub ask-offered : {figure : ℕ} → result.answer ≡ Offered figure
+  pub ask-offered : {figure : ℕ} → result.answer ≡ Ok figure
       → ask_text order pack ≡ offered_word ++ rest (eleven_of figure result.counts result.copies)
   unfolding ask_text
   ask-offered {figure} a = go (ask pack order work_most) answered
@@ -52,7 +52,7 @@ module _ (pack : List ℕ) (order : Order) {work worked : List ℕ} {result : As
           rw (e, ← same) (ap (λ numbers. offered_word ++ rest numbers) (offer-elements offer))
       go (refused why) e = let told = ap (λ r. r.answer) e in absurd (let z : ◌≡◌ {A = ℕ} 0 1 = cc in omega arith)
 
-  pub ask-refused : {why : Refusal} → result.answer ≡ Refused why → ask_text order pack ≡ refused_line why
+  pub ask-refused : {why : Refusal} → result.answer ≡ Err why → ask_text order pack ≡ refused_line why
   unfolding ask_text
   ask-refused {why} a = go (ask pack order work_most) (ap (λ r. r.answer) answered)
     where

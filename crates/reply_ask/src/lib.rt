@@ -11,11 +11,9 @@ ghost use Rattle.call_replies.specs.Committing.{offered_word, ask_text, ask_repl
 ghost use Rattle.call_replies.specs.Offers.{eleven_of};
 
 use call_replies::ASK_NEEDED;
-use commit::AskAnswer;
 use placement::Order;
 use refusal::Refusal;
 use replies::WORK_MOST;
-use report::Reply;
 use text::{GivenEnd, TextRefusal};
 
 // Puts the line of an offer at the start of `out`, and answers its length.
@@ -44,8 +42,8 @@ fn asked(pack: &[u8], order: Order, work: &mut [u16], out: &mut [u8]) -> usize
     let counts = result.counts;
     let copies = result.copies;
     match answer {
-        AskAnswer::Offered(figure) => offered_line(figure, counts, copies, out),
-        AskAnswer::Refused(e) => report_lines::refused_line(out, e),
+        Ok(figure) => offered_line(figure, counts, copies, out),
+        Err(e) => report_lines::refused_line(out, e),
     }
 }
 
@@ -82,14 +80,14 @@ fn ask_given(arguments: &[u8], input: &[u8], out: &mut [u8]) -> usize
 
 // Puts what `ask` prints for its arguments and the input at the start of `out`, and answers its length; a slice of fewer than 256
 // bytes is refused.
-pub fn ask_reply(arguments: &[u8], input: &[u8], out: &mut [u8]) -> Reply
+pub fn ask_reply(arguments: &[u8], input: &[u8], out: &mut [u8]) -> Result<usize, Refusal>
     ensures { ReplyDone
         (into ask_needed (ask_reply arguments.now input.now) (length out.old))
         out.old out.new result }
 {
     if out.len() < ASK_NEEDED {
-        return Reply::Refused(Refusal::ShortOutput(ASK_NEEDED));
+        return Err(Refusal::ShortOutput(ASK_NEEDED));
     }
     let length = ask_given(arguments, input, out);
-    Reply::Written(length)
+    Ok(length)
 }

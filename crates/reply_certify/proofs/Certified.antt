@@ -1,5 +1,6 @@
 -- What `certify` writes, from the answer of the call. Assumes nothing.
 use Prim.Native.Nat.{ℕ, ◌*◌, ◌≤◌}
+use Rattle.std.specs.Prelude.{Ok, Err}
 use native.Mathlib.Omega.{arith}
 use native.Mathlib.Nat.{mul-le-mul}
 use mathlib.Core.Path.{◌≡◌, refl}
@@ -8,7 +9,7 @@ use lib.ListN.{length}
 use Rattle.refusal.specs.declared.Refusal.{Refusal}
 use Rattle.refusal.proofs.Checked.{bind_congr}
 use Rattle.planner.specs.Planning.{output_needed, output_most}
-use Rattle.planner.specs.declared.PlanAnswer.TheVariants.{Planned, Refused}
+use Rattle.planner.specs.declared.PlannedFile.{PlannedFile}
 use Rattle.planner.specs.declared.PlanResult.{PlanResult}
 use Rattle.planner.proofs.Checks.{output-good}
 use Rattle.certify.specs.Bare.{check_bare}
@@ -31,13 +32,13 @@ certify-most bare output room =
 
 module _ (bare : List ℕ) {before between : List ℕ} {result : PlanResult} (room : output_most ≤ length before)
     (done : CertifyDone (certify bare (length before)) before between result) where
-  pub certify-planned : {size figure : ℕ} → result.answer ≡ Planned size figure → Replied (certify_text bare) size before between
+  pub certify-planned : {made : PlannedFile} → result.answer ≡ Ok made → Replied (certify_text bare) made.length before between
   unfolding certify_text
   certify-planned a =
       rw (← certify-most bare (length before) room)
       (planned-text (certify bare (length before)) before done.answer done.output-after a)
 
-  pub certify-refused : {why : Refusal} {after : List ℕ} {next : ℕ} → result.answer ≡ Refused why
+  pub certify-refused : {why : Refusal} {after : List ℕ} {next : ℕ} → result.answer ≡ Err why
       → Replied (refused_line why) next between after → Replied (certify_text bare) next before after
   unfolding certify_text
   certify-refused a line =

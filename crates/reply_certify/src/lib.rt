@@ -8,10 +8,8 @@ ghost use Rattle.report.specs.Answers.{ReplyDone};
 ghost use Rattle.replies.specs.Replying.{into};
 ghost use Rattle.reply_certify.specs.Certify.{certify_text, certify_reply};
 
-use planner::PlanAnswer;
 use refusal::Refusal;
 use replies::OUTPUT_MOST;
-use report::Reply;
 use text::{GivenEnd, TextRefusal};
 
 // Puts the placement of the bare rows, or the line of the refusal, at the start of `out`, and answers its length.
@@ -22,8 +20,8 @@ fn certify_text(bare: &[u8], out: &mut [u8]) -> usize
     let result = certify_code::certify(bare, out);
     let answer = result.answer;
     match answer {
-        PlanAnswer::Planned { length, figure: _ } => length,
-        PlanAnswer::Refused(e) => report_lines::refused_line(out, e),
+        Ok(planned) => planned.length,
+        Err(e) => report_lines::refused_line(out, e),
     }
 }
 
@@ -43,14 +41,14 @@ fn certify_given(arguments: &[u8], input: &[u8], out: &mut [u8]) -> usize
 
 // Puts what `certify` writes for its arguments and the input at the start of `out`, and answers its length; a slice of fewer than
 // 20,928 bytes is refused.
-pub fn certify_reply(arguments: &[u8], input: &[u8], out: &mut [u8]) -> Reply
+pub fn certify_reply(arguments: &[u8], input: &[u8], out: &mut [u8]) -> Result<usize, Refusal>
     ensures { ReplyDone
         (into output_most (certify_reply arguments.now input.now) (length out.old))
         out.old out.new result }
 {
     if out.len() < OUTPUT_MOST {
-        return Reply::Refused(Refusal::ShortOutput(OUTPUT_MOST));
+        return Err(Refusal::ShortOutput(OUTPUT_MOST));
     }
     let length = certify_given(arguments, input, out);
-    Reply::Written(length)
+    Ok(length)
 }

@@ -9,10 +9,8 @@ ghost use Rattle.replies.specs.Replying.{into};
 ghost use Rattle.call_replies.specs.Committing.{commit_bad, commit_text, commit_reply};
 
 use placement::Order;
-use planner::PlanAnswer;
 use refusal::Refusal;
 use replies::OUTPUT_MOST;
-use report::Reply;
 use text::{GivenEnd, TextRefusal};
 
 // The refusal of a number that can't be read: of s, k or b, or of a count.
@@ -36,8 +34,8 @@ fn commit_text(pack: &[u8], order: Order, counts: [usize; 5], out: &mut [u8]) ->
     let result = commit_code::commit(pack, s, k, b, counts, out);
     let answer = result.answer;
     match answer {
-        PlanAnswer::Planned { length, figure: _ } => length,
-        PlanAnswer::Refused(e) => report_lines::refused_line(out, e),
+        Ok(planned) => planned.length,
+        Err(e) => report_lines::refused_line(out, e),
     }
 }
 
@@ -66,14 +64,14 @@ fn commit_given(arguments: &[u8], input: &[u8], out: &mut [u8]) -> usize
 
 // Puts what `commit` writes for its arguments and the input at the start of `out`, and answers its length; a slice of fewer than
 // 20,928 bytes is refused.
-pub fn commit_reply(arguments: &[u8], input: &[u8], out: &mut [u8]) -> Reply
+pub fn commit_reply(arguments: &[u8], input: &[u8], out: &mut [u8]) -> Result<usize, Refusal>
     ensures { ReplyDone
         (into output_most (commit_reply arguments.now input.now) (length out.old))
         out.old out.new result }
 {
     if out.len() < OUTPUT_MOST {
-        return Reply::Refused(Refusal::ShortOutput(OUTPUT_MOST));
+        return Err(Refusal::ShortOutput(OUTPUT_MOST));
     }
     let length = commit_given(arguments, input, out);
-    Reply::Written(length)
+    Ok(length)
 }

@@ -1,5 +1,6 @@
 -- The lines of `curve`, from the answers of the calls. Assumes nothing.
 use Prim.Native.Nat.{ℕ, ◌+◌, ◌-◌, ◌≤◌}
+use Rattle.std.specs.Prelude.{Result, Ok, Err}
 use native.Mathlib.Nat.{sub-zero}
 use native.Mathlib.Omega.{arith}
 use mathlib.Core.Path.{◌≡◌, refl, sym, ◌∙◌, ap}
@@ -11,8 +12,6 @@ use borrow.Author.Tests.{le-leb}
 use Rattle.lists.proofs.UpTo.{length-map-up_to}
 use Rattle.refusal.specs.declared.Refusal.{Refusal}
 use Rattle.refusal.specs.declared.Refusal.TheVariants.{ShortOutput}
-use Rattle.refusal.specs.declared.Writing.{Writing}
-use Rattle.refusal.specs.declared.Writing.TheVariants.{Written, Refused}
 use Rattle.refusal.specs.Checked.{Checked, accepted, refused, ◌>>=◌, require, map_accepted, writing, written, WritingDone}
 use Rattle.refusal.proofs.Checked.{map_accepted-accepted}
 use Rattle.placement.specs.Placement.{Placement, read_placement, check_placement}
@@ -57,26 +56,26 @@ pub record CurveFound (placement : List ℕ) (order : Order) (figures : List ℕ
   pub s-most : order.s ≤ 255
   pub text : curve_text placement ≡ figure_lines order.s (take (entries - 0) (drop 0 figures))
 
-module _ (placement : List ℕ) {before after : List ℕ} {given : Writing}
+module _ (placement : List ℕ) {before after : List ℕ} {given : Result ℕ Refusal}
     (done : WritingDone (check_curve placement 254) before after given) where
   answered : given ≡ writing (map_accepted curve_of (check_placement placement))
   answered = done.answer ∙ ap writing (curve-is placement)
 
-  pub curve-refused : {why : Refusal} → given ≡ Refused why → curve_text placement ≡ refused_line why
+  pub curve-refused : {why : Refusal} → given ≡ Err why → curve_text placement ≡ refused_line why
   unfolding curve_text
   curve-refused {why} e = go (check_placement placement) (sym e ∙ answered)
     where
-      go : (o : Checked Placement) → Refused why ≡ writing (map_accepted curve_of o)
+      go : (o : Checked Placement) → Err why ≡ writing (map_accepted curve_of o)
           → or_refused_line (map_accepted curve_lines o) ≡ refused_line why
       go (accepted p) e = absurd (let z : ◌≡◌ {A = ℕ} 0 1 = cc in omega arith)
       go (refused other) e = let same : other ≡ why = cc in rw same
 
-  pub curve-found : {entries : ℕ} {order : Order} → OrderOf placement order → length before ≡ 254 → given ≡ Written entries
+  pub curve-found : {entries : ℕ} {order : Order} → OrderOf placement order → length before ≡ 254 → given ≡ Ok entries
       → CurveFound placement order after entries
   unfolding curve_text
   curve-found {entries} {order} is long e = go (check_placement placement) refl (sym e ∙ answered) (done.output-after ∙ ap (λ c. written c before) (curve-is placement))
     where
-      go : (o : Checked Placement) → check_placement placement ≡ o → Written entries ≡ writing (map_accepted curve_of o)
+      go : (o : Checked Placement) → check_placement placement ≡ o → Ok entries ≡ writing (map_accepted curve_of o)
           → after ≡ written (map_accepted curve_of o) before → CurveFound placement order after entries
       go (accepted p) c e w =
           let size : entries ≡ length (curve_of p) = cc in

@@ -9,8 +9,7 @@ ghost use Rattle.replies.specs.Replying.{into};
 ghost use Rattle.call_replies.specs.Curve.{curve_text, curve_reply, curve_needed};
 
 use call_replies::CURVE_NEEDED;
-use refusal::{Refusal, Writing};
-use report::Reply;
+use refusal::Refusal;
 use text::{GivenEnd, TextRefusal};
 
 // Puts a line with the number of failures and the figure for each figure at the start of `out`, the first for k failures, and
@@ -22,11 +21,9 @@ fn put_figures(figures: &[u16], k: usize, out: &mut [u8]) -> usize
     ensures { Replied (figure_lines k figures.now) result out.old out.new }
 {
     let mut place: usize = 0;
-    let mut i: usize = 0;
-    while i < figures.len() {
-        let figure = [figures[i] as usize];
+    for (i, figure) in figures.iter().enumerate() {
+        let figure = [usize::from(*figure)];
         place = reply_lines::put_numbers(out, place, k + i, &figure);
-        i += 1;
     }
     place
 }
@@ -41,8 +38,8 @@ fn curve_text(placement: &[u8], out: &mut [u8]) -> usize
     let mut figures = [0u16; 254];
     let writing = curve_code::curve(placement, &mut figures);
     match writing {
-        Writing::Refused(e) => report_lines::refused_line(out, e),
-        Writing::Written(entries) => put_figures(&figures[0..entries], s, out),
+        Err(e) => report_lines::refused_line(out, e),
+        Ok(entries) => put_figures(&figures[0..entries], s, out),
     }
 }
 
@@ -62,14 +59,14 @@ fn curve_given(arguments: &[u8], input: &[u8], out: &mut [u8]) -> usize
 
 // Puts what `curve` prints for its arguments and the input at the start of `out`, and answers its length; a slice of fewer than
 // 10,668 bytes is refused.
-pub fn curve_reply(arguments: &[u8], input: &[u8], out: &mut [u8]) -> Reply
+pub fn curve_reply(arguments: &[u8], input: &[u8], out: &mut [u8]) -> Result<usize, Refusal>
     ensures { ReplyDone
         (into curve_needed (curve_reply arguments.now input.now) (length out.old))
         out.old out.new result }
 {
     if out.len() < CURVE_NEEDED {
-        return Reply::Refused(Refusal::ShortOutput(CURVE_NEEDED));
+        return Err(Refusal::ShortOutput(CURVE_NEEDED));
     }
     let length = curve_given(arguments, input, out);
-    Reply::Written(length)
+    Ok(length)
 }

@@ -1,5 +1,6 @@
 -- What `join` writes, from the answer of the call, and by how many files are named. Assumes nothing.
 use Prim.Native.Nat.{ℕ, ◌≤◌, ◌<◌}
+use Rattle.std.specs.Prelude.{Result, Ok}
 use mathlib.Core.Path.{◌≡◌, ◌∙◌}
 use mathlib.Core.List.{List, [], ◌∷◌}
 use lib.ListN.{length}
@@ -8,20 +9,19 @@ use Rattle.refusal.specs.Checked.{Checked, accepted, refused}
 use Rattle.pack.specs.Pack.{Pack, bytes_of_pack}
 use Rattle.join.specs.Join.{join}
 use Rattle.join.specs.Answers.{JoinDone}
-use Rattle.join.specs.declared.Joined.{Joined}
-use Rattle.join.specs.declared.Joined.TheVariants.{Written}
 use Rattle.report.specs.Replies.{Replied}
 use Rattle.report.proofs.Replies.{replied-of}
 use Rattle.text.specs.declared.TextRefusal.TheVariants.{Arguments}
 use Rattle.replies.specs.Lines.{text_line}
 use Rattle.call_replies.specs.Join.{joined_text, join_reply, Told}
+use Rattle.refusal.specs.declared.Refusal.{Refusal}
 
 -- after a call, and what was told of its answer
-pub told-replied : (m : Checked Pack) (before : List ℕ) {between after : List ℕ} {given : Joined} {r : ℕ}
+pub told-replied : (m : Checked Pack) (before : List ℕ) {between after : List ℕ} {given : Result ℕ Refusal} {r : ℕ}
     → JoinDone m before between given → Told given r between after → Replied (joined_text m) r before after
 unfolding joined_text
 told-replied (accepted p) before {between} {after} {given} {r} done told =
-    let t : Told (Written (length (bytes_of_pack p))) r between after = rw done.given_is at told in
+    let t : Told (Ok (length (bytes_of_pack p))) r between after = rw done.given_is at told in
     replied-of (bytes_of_pack p) r before after t.0 (t.1 ∙ done.output-after)
 told-replied (refused e) before {between} {after} {given} {r} done told =
     rw (done.given_is, done.output-after) at told

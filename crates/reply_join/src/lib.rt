@@ -9,20 +9,18 @@ ghost use Rattle.report.specs.Answers.{ReplyDone};
 ghost use Rattle.replies.specs.Replying.{into};
 ghost use Rattle.call_replies.specs.Join.{joined_text, join_reply, Told};
 
-use join::Joined;
 use refusal::Refusal;
 use replies::OUTPUT_MOST;
-use report::Reply;
 use text::TextRefusal;
 
 // Puts the line of a refusal at the start of `out`, and answers the length of what stands there.
-fn tell(joined: Joined, out: &mut [u8]) -> usize
+fn tell(joined: Result<usize, Refusal>, out: &mut [u8]) -> usize
     requires { line_needed ≤ length out.old }
     ensures { Told joined result out.old out.new }
 {
     match joined {
-        Joined::Written(length) => length,
-        Joined::Refused(e) => report_lines::refused_line(out, e),
+        Ok(length) => length,
+        Err(e) => report_lines::refused_line(out, e),
     }
 }
 
@@ -78,7 +76,13 @@ fn join_text(named: usize, first: &[u8], second: &[u8], third: &[u8], out: &mut 
 
 // Puts what `join` writes for so many named files at the start of `out`, and answers its length; a slice of fewer than 20,928 bytes
 // is refused.
-pub fn join_reply(named: usize, first: &[u8], second: &[u8], third: &[u8], out: &mut [u8]) -> Reply
+pub fn join_reply(
+    named: usize,
+    first: &[u8],
+    second: &[u8],
+    third: &[u8],
+    out: &mut [u8],
+) -> Result<usize, Refusal>
     ensures { ReplyDone
         (into output_most
         (join_reply named first.now second.now third.now (length out.old))
@@ -86,8 +90,8 @@ pub fn join_reply(named: usize, first: &[u8], second: &[u8], third: &[u8], out: 
         out.old out.new result }
 {
     if out.len() < OUTPUT_MOST {
-        return Reply::Refused(Refusal::ShortOutput(OUTPUT_MOST));
+        return Err(Refusal::ShortOutput(OUTPUT_MOST));
     }
     let length = join_text(named, first, second, third, out);
-    Reply::Written(length)
+    Ok(length)
 }

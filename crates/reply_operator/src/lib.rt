@@ -9,10 +9,8 @@ ghost use Rattle.replies.specs.Replying.{into};
 ghost use Rattle.call_replies.specs.Operators.{operator_bad, operator_text, operator_reply};
 
 use operators::SharedOrder;
-use planner::PlanAnswer;
 use refusal::Refusal;
 use replies::{OUTPUT_MOST, WORK_MOST};
-use report::Reply;
 use text::{GivenEnd, TextRefusal};
 
 // The refusal of a number that can't be read: of s, of k, or of a wish.
@@ -34,8 +32,8 @@ fn planned(pack: &[u8], order: SharedOrder, work: &mut [u16], out: &mut [u8]) ->
     let result = operators_code::plan_operator(pack, order, work, out);
     let answer = result.answer;
     match answer {
-        PlanAnswer::Planned { length, figure: _ } => length,
-        PlanAnswer::Refused(e) => report_lines::refused_line(out, e),
+        Ok(planned) => planned.length,
+        Err(e) => report_lines::refused_line(out, e),
     }
 }
 
@@ -73,14 +71,14 @@ fn operator_given(arguments: &[u8], input: &[u8], out: &mut [u8]) -> usize
 
 // Puts what `operator` writes for its arguments and the input at the start of `out`, and answers its length; a slice of fewer than
 // 20,928 bytes is refused.
-pub fn operator_reply(arguments: &[u8], input: &[u8], out: &mut [u8]) -> Reply
+pub fn operator_reply(arguments: &[u8], input: &[u8], out: &mut [u8]) -> Result<usize, Refusal>
     ensures { ReplyDone
         (into output_most (operator_reply arguments.now input.now) (length out.old))
         out.old out.new result }
 {
     if out.len() < OUTPUT_MOST {
-        return Reply::Refused(Refusal::ShortOutput(OUTPUT_MOST));
+        return Err(Refusal::ShortOutput(OUTPUT_MOST));
     }
     let length = operator_given(arguments, input, out);
-    Reply::Written(length)
+    Ok(length)
 }

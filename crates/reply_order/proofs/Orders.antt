@@ -1,5 +1,6 @@
 -- The numbers of an accepted placement, from the answer of its check. Assumes nothing.
 use Prim.Native.Nat.{ℕ}
+use Rattle.std.specs.Prelude.{Ok, Err}
 use mathlib.Core.Path.{◌≡◌, sym, ◌∙◌, ap}
 use mathlib.Core.List.{List}
 use Rattle.refusal.specs.declared.Refusal.{Refusal}
@@ -10,18 +11,17 @@ use Rattle.placement.specs.Answers.{placement_checked}
 use Rattle.placement.specs.declared.Order.{Order}
 use Rattle.placement.specs.declared.PlacementHead.{PlacementHead}
 use Rattle.placement.specs.declared.PlacementCheck.{PlacementCheck}
-use Rattle.placement.specs.declared.PlacementAnswer.TheVariants.{Accepted, Refused}
 use Rattle.placement.proofs.Answered.{check-refused, check-accepted}
 use Rattle.call_replies.specs.Orders.{OrderOf}
 
 module _ (bytes : List ℕ) {check : PlacementCheck} (is : check ≡ placement_checked (read_placement bytes)) where
-  pub order-refused : {why : Refusal} → check.answer ≡ Refused why → (order : Order) → OrderOf bytes order
+  pub order-refused : {why : Refusal} → check.answer ≡ Err why → (order : Order) → OrderOf bytes order
   unfolding check_placement
   order-refused a order p e =
       let none = check-refused (read_placement bytes) is a in
       absurd (refused-not-accepted (sym (ap (map_accepted (λ file. file.content)) none) ∙ e))
 
-  pub order-accepted : {head : PlacementHead} → check.answer ≡ Accepted head
+  pub order-accepted : {head : PlacementHead} → check.answer ≡ Ok head
       → OrderOf bytes (record { s = head.s; k = head.k; b = head.b })
   unfolding check_placement
   order-accepted {head} a p e =

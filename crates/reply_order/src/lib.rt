@@ -3,7 +3,7 @@
 
 ghost use Rattle.call_replies.specs.Orders.{OrderOf};
 
-use placement::{Order, PlacementAnswer};
+use placement::Order;
 
 // s, k and b of an accepted placement; zeros where it is refused.
 pub fn order_of(placement: &[u8]) -> Order
@@ -12,8 +12,8 @@ pub fn order_of(placement: &[u8]) -> Order
     let check = placement_code::check_placement(placement);
     let answer = check.answer;
     match answer {
-        PlacementAnswer::Refused(_) => Order { s: 0, k: 0, b: 0 },
-        PlacementAnswer::Accepted(head) => Order {
+        Err(_) => Order { s: 0, k: 0, b: 0 },
+        Ok(head) => Order {
             s: head.s,
             k: head.k,
             b: head.b,

@@ -1,5 +1,6 @@
 -- What `page` prints, from the answer of the call. Assumes nothing.
 use Prim.Native.Nat.{ℕ, ◌≤◌}
+use Rattle.std.specs.Prelude.{Result, Ok, Err}
 use native.Mathlib.Omega.{arith}
 use mathlib.Core.Path.{◌≡◌, refl, sym, ◌∙◌, ap}
 use mathlib.Core.List.{List}
@@ -8,8 +9,6 @@ use lib.Dec.{leb}
 use borrow.Author.Tests.{le-leb}
 use Rattle.refusal.specs.declared.Refusal.{Refusal}
 use Rattle.refusal.specs.declared.Refusal.TheVariants.{ShortOutput}
-use Rattle.refusal.specs.declared.Writing.{Writing}
-use Rattle.refusal.specs.declared.Writing.TheVariants.{Written, Refused}
 use Rattle.refusal.specs.Checked.{Checked, accepted, refused, ◌>>=◌, require, map_accepted, writing, written, WritingDone}
 use Rattle.refusal.proofs.Checked.{map_accepted-accepted}
 use Rattle.placement.specs.Placement.{Placement, read_placement, check_placement}
@@ -38,7 +37,7 @@ page-is placement output room = go (check_placement placement) (page-most placem
     go (accepted p) few = rw (le-leb (page_length p.b) output (omega (arith, few p refl, room)))
     go (refused why) few = refl
 
-module _ (placement before : List ℕ) {between : List ℕ} {given : Writing} (room : page_needed ≤ length before)
+module _ (placement before : List ℕ) {between : List ℕ} {given : Result ℕ Refusal} (room : page_needed ≤ length before)
     (done : WritingDone (check_page placement (length before)) before between given) where
   answered : given ≡ writing (map_accepted page_of (check_placement placement))
   answered = done.answer ∙ ap writing (page-is placement (length before) room)
@@ -47,11 +46,11 @@ module _ (placement before : List ℕ) {between : List ℕ} {given : Writing} (r
   left = done.output-after ∙ ap (λ c. written c before) (page-is placement (length before) room)
 
   -- a page stands at the output's start already
-  pub page-written : {size : ℕ} → given ≡ Written size → Replied (page_text placement) size before between
+  pub page-written : {size : ℕ} → given ≡ Ok size → Replied (page_text placement) size before between
   unfolding page_text
   page-written {size} a = go (check_placement placement) (sym a ∙ answered) left
     where
-      go : (o : Checked Placement) → Written size ≡ writing (map_accepted page_of o) → between ≡ written (map_accepted page_of o) before
+      go : (o : Checked Placement) → Ok size ≡ writing (map_accepted page_of o) → between ≡ written (map_accepted page_of o) before
           → Replied (or_refused_line (map_accepted page_of o)) size before between
       go (accepted p) e w =
           let same : size ≡ length (page_of p) = cc in
@@ -59,12 +58,12 @@ module _ (placement before : List ℕ) {between : List ℕ} {given : Writing} (r
       go (refused why) e w = absurd (let z : ◌≡◌ {A = ℕ} 0 1 = cc in omega arith)
 
   -- a refusal's line is written into the output as it was
-  pub page-refused : {why : Refusal} {after : List ℕ} {next : ℕ} → given ≡ Refused why
+  pub page-refused : {why : Refusal} {after : List ℕ} {next : ℕ} → given ≡ Err why
       → Replied (refused_line why) next between after → Replied (page_text placement) next before after
   unfolding page_text
   page-refused {why} {after} {next} a line = go (check_placement placement) (sym a ∙ answered) left
     where
-      go : (o : Checked Placement) → Refused why ≡ writing (map_accepted page_of o) → between ≡ written (map_accepted page_of o) before
+      go : (o : Checked Placement) → Err why ≡ writing (map_accepted page_of o) → between ≡ written (map_accepted page_of o) before
           → Replied (or_refused_line (map_accepted page_of o)) next before after
       go (accepted p) e w = absurd (let z : ◌≡◌ {A = ℕ} 0 1 = cc in omega arith)
       go (refused other) e w =

@@ -8,8 +8,7 @@ ghost use Rattle.replies.specs.Replying.{into};
 ghost use Rattle.call_replies.specs.Page.{page_text, page_reply, page_needed};
 
 use call_replies::PAGE_NEEDED;
-use refusal::{Refusal, Writing};
-use report::Reply;
+use refusal::Refusal;
 use text::{GivenEnd, TextRefusal};
 
 // Puts a placement's page, or the line of the refusal, at the start of `out`, and answers its length.
@@ -19,8 +18,8 @@ fn page_text(placement: &[u8], out: &mut [u8]) -> usize
 {
     let writing = page_code::page(placement, out);
     match writing {
-        Writing::Refused(e) => report_lines::refused_line(out, e),
-        Writing::Written(length) => length,
+        Err(e) => report_lines::refused_line(out, e),
+        Ok(length) => length,
     }
 }
 
@@ -40,14 +39,14 @@ fn page_given(arguments: &[u8], input: &[u8], out: &mut [u8]) -> usize
 
 // Puts what `page` prints for its arguments and the input at the start of `out`, and answers its length; a slice of fewer than
 // 110,619 bytes is refused.
-pub fn page_reply(arguments: &[u8], input: &[u8], out: &mut [u8]) -> Reply
+pub fn page_reply(arguments: &[u8], input: &[u8], out: &mut [u8]) -> Result<usize, Refusal>
     ensures { ReplyDone
         (into page_needed (page_reply arguments.now input.now) (length out.old))
         out.old out.new result }
 {
     if out.len() < PAGE_NEEDED {
-        return Reply::Refused(Refusal::ShortOutput(PAGE_NEEDED));
+        return Err(Refusal::ShortOutput(PAGE_NEEDED));
     }
     let length = page_given(arguments, input, out);
-    Reply::Written(length)
+    Ok(length)
 }

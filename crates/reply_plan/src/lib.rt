@@ -9,10 +9,8 @@ ghost use Rattle.replies.specs.Replying.{into};
 ghost use Rattle.replies.specs.Plans.{plan_text, plan_program};
 
 use placement::Order;
-use planner::PlanAnswer;
 use refusal::Refusal;
 use replies::{OUTPUT_MOST, WORK_MOST};
-use report::Reply;
 use text::{GivenEnd, TextRefusal};
 
 // Puts the placement that is planned, or the line of the refusal, at the start of `out`, and answers its length.
@@ -27,8 +25,8 @@ fn planned(pack: &[u8], order: Order, work: &mut [u16], out: &mut [u8]) -> usize
     let result = planner_code::plan(pack, s, k, b, work, out);
     let answer = result.answer;
     match answer {
-        PlanAnswer::Planned { length, figure: _ } => length,
-        PlanAnswer::Refused(e) => report_lines::refused_line(out, e),
+        Ok(planned) => planned.length,
+        Err(e) => report_lines::refused_line(out, e),
     }
 }
 
@@ -65,14 +63,14 @@ fn plan_given(arguments: &[u8], input: &[u8], out: &mut [u8]) -> usize
 
 // Puts what `plan` writes for its arguments and the input at the start of `out`, and answers its length; a slice of fewer than
 // 20,928 bytes is refused.
-pub fn plan_reply(arguments: &[u8], input: &[u8], out: &mut [u8]) -> Reply
+pub fn plan_reply(arguments: &[u8], input: &[u8], out: &mut [u8]) -> Result<usize, Refusal>
     ensures { ReplyDone
         (into output_most (plan_program arguments.now input.now) (length out.old))
         out.old out.new result }
 {
     if out.len() < OUTPUT_MOST {
-        return Reply::Refused(Refusal::ShortOutput(OUTPUT_MOST));
+        return Err(Refusal::ShortOutput(OUTPUT_MOST));
     }
     let length = plan_given(arguments, input, out);
-    Reply::Written(length)
+    Ok(length)
 }

@@ -1,5 +1,6 @@
 -- The line of `replay`, from what was read of the log and what the calls answer. Assumes nothing.
 use Prim.Native.Nat.{ℕ, ◌≤◌}
+use Rattle.std.specs.Prelude.{Ok, Err}
 use native.Mathlib.Omega.{arith}
 use mathlib.Core.Path.{◌≡◌, refl, ap}
 use mathlib.Core.List.{List}
@@ -11,7 +12,6 @@ use Rattle.placement.specs.Placement.{Placement, read_placement, check_placement
 use Rattle.placement.specs.Answers.{placement_checked}
 use Rattle.placement.specs.declared.PlacementHead.{PlacementHead}
 use Rattle.placement.specs.declared.PlacementCheck.{PlacementCheck}
-use Rattle.placement.specs.declared.PlacementAnswer.TheVariants.{Accepted, Refused as NotAccepted}
 use Rattle.placement.proofs.Answered.{check-refused, check-accepted}
 use Rattle.report.specs.Programs.{refused_line}
 use Rattle.text.specs.declared.TextRefusal.{TextRefusal}
@@ -20,13 +20,12 @@ use Rattle.replies.specs.Lines.{text_line}
 use Rattle.replay.specs.Replays.{check_replay}
 use Rattle.replay.specs.Answers.{replay_answer}
 use Rattle.logs.specs.declared.Log.{Log}
-use Rattle.logs.specs.declared.LogEnd.TheVariants.{Whole, Refused}
 use Rattle.logs.specs.Reading.{LogRead, events, unread, LogIn, read_log, events_most}
 use Rattle.logs.specs.Replying.{answer_line, replayed, replay_text, replay_reply}
 
 -- a log that was read to its end
 module _ (log : List ℕ) (read : Log) (is : LogIn (read_log log) read) where
-  module _ (end : read.end ≡ Whole) where
+  module _ (end : read.end ≡ Ok tt) where
     pub whole-most : read.count ≤ events_most
     whole-most = go (read_log log) is
       where
@@ -46,7 +45,7 @@ module _ (log : List ℕ) (read : Log) (is : LogIn (read_log log) read) where
         go (unread f) h o e = absurd (let z : ◌≡◌ {A = ℕ} 0 1 = cc in omega arith)
 
   -- one that was refused
-  pub unread-text : {e : TextRefusal} → read.end ≡ Refused e → (placement : List ℕ)
+  pub unread-text : {e : TextRefusal} → read.end ≡ Err e → (placement : List ℕ)
       → replay_text log placement ≡ replayed (check_placement placement) placement (unread e)
   unfolding replay_text
   unread-text {e} end placement = ap (replayed (check_placement placement) placement) (go (read_log log) is)
@@ -57,12 +56,12 @@ module _ (log : List ℕ) (read : Log) (is : LogIn (read_log log) read) where
 
 -- the placement's refusal comes first
 module _ (placement : List ℕ) (e : TextRefusal) {check : PlacementCheck} (is : check ≡ placement_checked (read_placement placement)) where
-  pub unread-refused : {why : Refusal} → check.answer ≡ NotAccepted why
+  pub unread-refused : {why : Refusal} → check.answer ≡ Err why
       → replayed (check_placement placement) placement (unread e) ≡ refused_line why
   unfolding check_placement
   unread-refused a = rw (check-refused (read_placement placement) is a) refl
 
-  pub unread-accepted : {head : PlacementHead} → check.answer ≡ Accepted head
+  pub unread-accepted : {head : PlacementHead} → check.answer ≡ Ok head
       → replayed (check_placement placement) placement (unread e) ≡ text_line e
   unfolding check_placement
   unread-accepted a = rw (check-accepted (read_placement placement) is a).is-accepted refl

@@ -9,11 +9,9 @@ ghost use Rattle.replies.specs.Replying.{into};
 ghost use Rattle.logs.specs.Reading.{unread};
 ghost use Rattle.logs.specs.Replying.{answer_line, replayed, replay_text, replay_reply};
 
-use logs::LogEnd;
-use placement::PlacementAnswer;
 use refusal::Refusal;
 use replay::Replayed;
-use report::{LINE_NEEDED, Reply};
+use report::LINE_NEEDED;
 use text::TextRefusal;
 
 // Puts the line of what a replay answers at the start of `out`, and answers its length.
@@ -37,8 +35,8 @@ fn unread_line(placement: &[u8], e: TextRefusal, out: &mut [u8]) -> usize
     let check = placement_code::check_placement(placement);
     let answer = check.answer;
     match answer {
-        PlacementAnswer::Accepted(_) => reply_lines::text_line(out, e),
-        PlacementAnswer::Refused(why) => report_lines::refused_line(out, why),
+        Ok(_) => reply_lines::text_line(out, e),
+        Err(why) => report_lines::refused_line(out, why),
     }
 }
 
@@ -52,8 +50,8 @@ fn replay_text(log: &[u8], placement: &[u8], out: &mut [u8]) -> usize
     let count = read.count;
     let events = read.events;
     match end {
-        LogEnd::Refused(e) => unread_line(placement, e, out),
-        LogEnd::Whole => {
+        Err(e) => unread_line(placement, e, out),
+        Ok(()) => {
             let answer = replay_array::replay_first(placement, events, count);
             lowest_line(answer, out)
         }
@@ -73,14 +71,19 @@ fn replay_named(named: usize, log: &[u8], placement: &[u8], out: &mut [u8]) -> u
 
 // Puts what `replay` prints with so many arguments, for the log that the first names and a placement, at the start of `out`, and
 // answers its length; a slice of fewer than 200 bytes is refused.
-pub fn replay_reply(named: usize, log: &[u8], placement: &[u8], out: &mut [u8]) -> Reply
+pub fn replay_reply(
+    named: usize,
+    log: &[u8],
+    placement: &[u8],
+    out: &mut [u8],
+) -> Result<usize, Refusal>
     ensures { ReplyDone
         (into line_needed (replay_reply named log.now placement.now) (length out.old))
         out.old out.new result }
 {
     if out.len() < LINE_NEEDED {
-        return Reply::Refused(Refusal::ShortOutput(LINE_NEEDED));
+        return Err(Refusal::ShortOutput(LINE_NEEDED));
     }
     let length = replay_named(named, log, placement, out);
-    Reply::Written(length)
+    Ok(length)
 }

@@ -8,8 +8,7 @@ ghost use Rattle.replies.specs.Replying.{into};
 ghost use Rattle.call_replies.specs.Rounds.{rounds_text, rounds_reply};
 
 use refusal::Refusal;
-use report::{LINE_NEEDED, Reply};
-use rounds::RoundsAnswer;
+use report::LINE_NEEDED;
 use text::{GivenEnd, TextRefusal};
 
 // Puts the line of the number of usable records after q rounds, or of the refusal, at the start of `out`, and answers its length.
@@ -19,8 +18,8 @@ fn rounds_text(placement: &[u8], q: usize, out: &mut [u8]) -> usize
 {
     let answer = rounds_code::rounds(placement, q);
     match answer {
-        RoundsAnswer::Usable(number) => reply_lines::put_numbers(out, 0, number, &[]),
-        RoundsAnswer::Refused(e) => report_lines::refused_line(out, e),
+        Ok(number) => reply_lines::put_numbers(out, 0, number, &[]),
+        Err(e) => report_lines::refused_line(out, e),
     }
 }
 
@@ -41,14 +40,14 @@ fn rounds_given(arguments: &[u8], input: &[u8], out: &mut [u8]) -> usize
 
 // Puts what `rounds` prints for its arguments and the input at the start of `out`, and answers its length; a slice of fewer than
 // 200 bytes is refused.
-pub fn rounds_reply(arguments: &[u8], input: &[u8], out: &mut [u8]) -> Reply
+pub fn rounds_reply(arguments: &[u8], input: &[u8], out: &mut [u8]) -> Result<usize, Refusal>
     ensures { ReplyDone
         (into line_needed (rounds_reply arguments.now input.now) (length out.old))
         out.old out.new result }
 {
     if out.len() < LINE_NEEDED {
-        return Reply::Refused(Refusal::ShortOutput(LINE_NEEDED));
+        return Err(Refusal::ShortOutput(LINE_NEEDED));
     }
     let length = rounds_given(arguments, input, out);
-    Reply::Written(length)
+    Ok(length)
 }

@@ -1,5 +1,6 @@
 -- The line of `worst`, from the answers of the calls. Assumes nothing.
 use Prim.Native.Nat.{ℕ, ◌-◌, ◌≤◌}
+use Rattle.std.specs.Prelude.{Result, Ok, Err}
 use native.Mathlib.Omega.{arith}
 use native.Mathlib.Nat.{sub-zero}
 use mathlib.Core.Path.{◌≡◌, refl, sym, ◌∙◌, ap, subst}
@@ -18,8 +19,6 @@ use Rattle.placement.specs.declared.Order.{Order}
 use Rattle.placement.proofs.Accepted.{read-of-placement}
 use Rattle.worst.specs.Worst.{Worst, few_sets, worst_of, check_worst}
 use Rattle.worst.specs.Answers.{worst_answer, WorstDone}
-use Rattle.worst.specs.declared.WorstCase.{WorstCase}
-use Rattle.worst.specs.declared.WorstCase.TheVariants.{Fewest, Refused}
 use Rattle.worst.proofs.Good.{worst-of-good}
 use Rattle.report.specs.Programs.{refused_line, or_refused_line}
 use Rattle.report.specs.Replies.{Replied}
@@ -67,21 +66,21 @@ pub record SetFound (placement : List ℕ) (order : Order) (nodes : List ℕ) (n
   pub few : length (take (order.k - 0) (drop 0 nodes)) ≤ 255
   pub text : worst_text placement ≡ numbers_line number (take (order.k - 0) (drop 0 nodes))
 
-module _ (placement : List ℕ) (before : List ℕ) {after : List ℕ} {given : WorstCase}
+module _ (placement : List ℕ) (before : List ℕ) {after : List ℕ} {given : Result ℕ Refusal}
     (done : WorstDone (check_worst placement 255) before after given) where
-  pub worst-refused : {why : Refusal} → given ≡ Refused why → worst_text placement ≡ refused_line why
+  pub worst-refused : {why : Refusal} → given ≡ Err why → worst_text placement ≡ refused_line why
   unfolding worst_text
   worst-refused {why} e = go (check_worst placement 255) (sym e ∙ done.answer)
     where
-      go : (o : Checked Worst) → Refused why ≡ worst_answer o → or_refused_line (map_accepted worst_line o) ≡ refused_line why
+      go : (o : Checked Worst) → Err why ≡ worst_answer o → or_refused_line (map_accepted worst_line o) ≡ refused_line why
       go (accepted worst) e = absurd (let z : ◌≡◌ {A = ℕ} 0 1 = cc in omega arith)
       go (refused other) e = let same : other ≡ why = cc in rw same
 
-  pub worst-found : {number : ℕ} {order : Order} → OrderOf placement order → given ≡ Fewest number → SetFound placement order after number
+  pub worst-found : {number : ℕ} {order : Order} → OrderOf placement order → given ≡ Ok number → SetFound placement order after number
   unfolding worst_text
   worst-found {number} {order} is e = go (check_worst placement 255) refl (sym e ∙ done.answer) done.output-after
     where
-      go : (o : Checked Worst) → check_worst placement 255 ≡ o → Fewest number ≡ worst_answer o
+      go : (o : Checked Worst) → check_worst placement 255 ≡ o → Ok number ≡ worst_answer o
           → after ≡ written (map_accepted (λ worst. worst.set) o) before → SetFound placement order after number
       go (accepted worst) c e w =
           let number_is : number ≡ worst.fewest = cc in

@@ -11,19 +11,15 @@ ghost use Rattle.call_replies.specs.Worst.{worst_text, worst_reply, worst_needed
 
 use call_replies::WORST_NEEDED;
 use refusal::Refusal;
-use report::Reply;
 use text::{GivenEnd, TextRefusal};
-use worst::WorstCase;
 
 // Puts the nodes at the start of `numbers`.
 fn widen(nodes: &[u8], numbers: &mut [usize])
     requires { length nodes.now ≤ length numbers.old }
     ensures { numbers.new ≡ over_start nodes.now numbers.old }
 {
-    let mut i: usize = 0;
-    while i < nodes.len() {
-        numbers[i] = nodes[i] as usize;
-        i += 1;
+    for (i, node) in nodes.iter().enumerate() {
+        numbers[i] = usize::from(*node);
     }
 }
 
@@ -49,8 +45,8 @@ fn worst_text(placement: &[u8], out: &mut [u8]) -> usize
     let mut nodes = [0u8; 255];
     let answer = worst_code::worst_case(placement, &mut nodes);
     match answer {
-        WorstCase::Refused(e) => report_lines::refused_line(out, e),
-        WorstCase::Fewest(number) => put_set(number, &nodes[0..k], out),
+        Err(e) => report_lines::refused_line(out, e),
+        Ok(number) => put_set(number, &nodes[0..k], out),
     }
 }
 
@@ -70,14 +66,14 @@ fn worst_given(arguments: &[u8], input: &[u8], out: &mut [u8]) -> usize
 
 // Puts what `worst` prints for its arguments and the input at the start of `out`, and answers its length; a slice of fewer than
 // 5,376 bytes is refused.
-pub fn worst_reply(arguments: &[u8], input: &[u8], out: &mut [u8]) -> Reply
+pub fn worst_reply(arguments: &[u8], input: &[u8], out: &mut [u8]) -> Result<usize, Refusal>
     ensures { ReplyDone
         (into worst_needed (worst_reply arguments.now input.now) (length out.old))
         out.old out.new result }
 {
     if out.len() < WORST_NEEDED {
-        return Reply::Refused(Refusal::ShortOutput(WORST_NEEDED));
+        return Err(Refusal::ShortOutput(WORST_NEEDED));
     }
     let length = worst_given(arguments, input, out);
-    Reply::Written(length)
+    Ok(length)
 }

@@ -1,5 +1,6 @@
 -- The replies are refused exactly where a lent slice is too short, and stand within it otherwise. Assumes nothing.
 use Prim.Native.Nat.{ℕ, ◌≤◌, ◌<◌}
+use Rattle.std.specs.Prelude.{Result, Ok, Err}
 use native.Mathlib.Omega.{arith}
 use mathlib.Core.Path.{◌≡◌, refl, ap}
 use mathlib.Core.List.{List}
@@ -11,8 +12,6 @@ use Rattle.refusal.specs.declared.Refusal.TheVariants.{ShortOutput}
 use Rattle.refusal.specs.Checked.{Checked, accepted, refused}
 use Rattle.report.specs.Programs.{check_line}
 use Rattle.report.specs.Answers.{ReplyDone}
-use Rattle.report.specs.declared.Reply.{Reply}
-use Rattle.report.specs.declared.Reply.TheVariants.{Written, Refused}
 use Rattle.report.specs.Replies.{Replied, line_needed, check_into}
 
 module _ (input : List ℕ) (output : ℕ) where
@@ -36,19 +35,19 @@ replied-of reply answer before after e w =
     }
 
 -- What an answer says of the slice that was lent.
-module _ (o : Checked (List ℕ)) {before after : List ℕ} {answer : Reply} (done : ReplyDone o before after answer) where
-  pub reply-not-refused : {bytes : List ℕ} {why : Refusal} → o ≡ accepted bytes → answer ≡ Refused why → ⊥
+module _ (o : Checked (List ℕ)) {before after : List ℕ} {answer : Result ℕ Refusal} (done : ReplyDone o before after answer) where
+  pub reply-not-refused : {bytes : List ℕ} {why : Refusal} → o ≡ accepted bytes → answer ≡ Err why → ⊥
   reply-not-refused e a = let is = done.answer in let z : ◌≡◌ {A = ℕ} 0 1 = cc in omega arith
 
   -- the reply itself
-  pub reply-written : {bytes : List ℕ} {n : ℕ} → o ≡ accepted bytes → answer ≡ Written n → Replied bytes n before after
+  pub reply-written : {bytes : List ℕ} {n : ℕ} → o ≡ accepted bytes → answer ≡ Ok n → Replied bytes n before after
   reply-written {bytes} {n} e a =
       let is = done.answer in
       let same : n ≡ length bytes = cc in
       replied-of bytes n before after same (rw e at done.output-after)
 
 -- a reply that was written is within the slice
-pub reply-inside : (o : Checked (List ℕ)) {before after : List ℕ} {answer : Reply} {n : ℕ} → ReplyDone o before after answer
-    → answer ≡ Written n → n ≤ length after
+pub reply-inside : (o : Checked (List ℕ)) {before after : List ℕ} {answer : Result ℕ Refusal} {n : ℕ} → ReplyDone o before after answer
+    → answer ≡ Ok n → n ≤ length after
 reply-inside (accepted bytes) done a = (reply-written (accepted bytes) done refl a).inside
 reply-inside (refused e) done a = let is = done.answer in absurd (let z : ◌≡◌ {A = ℕ} 0 1 = cc in omega arith)

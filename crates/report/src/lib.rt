@@ -16,10 +16,3 @@ pub struct Summary {
     pub most: usize,
     pub mean: usize,
 }
-
-// What a reply gives: how many bytes were written, or the refusal of a lent slice that is too short.
-#[derive(Clone, Copy)]
-pub enum Reply {
-    Written(usize),
-    Refused(Refusal),
-}

@@ -5,7 +5,7 @@ ghost use Rattle.report.specs.Programs.{check_line};
 ghost use Rattle.report.specs.Replies.{Replied, line_needed};
 ghost use Rattle.report_check.specs.Load.{rows_of, LoadAsked};
 
-use placement::{PlacementAnswer, PlacementHead};
+use placement::PlacementHead;
 use report::Summary;
 
 // The largest number of rows that hold one node. Where layer 0 has all rows its packing test has counted it, over the nodes themselves
@@ -32,8 +32,8 @@ pub(crate) fn check_line(input: &[u8], out: &mut [u8]) -> usize
     let layers = check.layers;
     let answer = check.answer;
     match answer {
-        PlacementAnswer::Refused(e) => report_lines::refused_line(out, e),
-        PlacementAnswer::Accepted(head) => {
+        Err(e) => report_lines::refused_line(out, e),
+        Ok(head) => {
             let n = head.n;
             let b = head.b;
             let size = layers[0].size;

@@ -9,11 +9,9 @@ pub fn put_rest(out: &mut [u8], at: usize, numbers: &[usize]) -> usize
     ensures { Put (rest numbers.now) out.old at result out.new }
 {
     let mut place = at;
-    let mut i: usize = 0;
-    while i < numbers.len() {
+    for n in numbers {
         out[place] = b' ';
-        place = crate::decimal::put_decimal(out, place + 1, numbers[i]);
-        i += 1;
+        place = crate::decimal::put_decimal(out, place + 1, *n);
     }
     out[place] = b'\n';
     place + 1

@@ -1,5 +1,6 @@
 -- The call from the answer of the placement's check. Assumes nothing.
 use Prim.Native.Nat.{ℕ, ◌+◌, ◌*◌, ◌-◌, ◌≤◌, ◌<◌}
+use Rattle.std.specs.Prelude.{Result, Ok, Err}
 use native.Mathlib.Omega.{arith}
 use native.Mathlib.Nat.{mul-le-mul}
 use mathlib.Core.Path.{◌≡◌, refl, sym, ◌∙◌, ap, subst}
@@ -22,13 +23,10 @@ use Rattle.placement.specs.Answers.{table_of, rows_by_table, placement_head, pla
 use Rattle.placement.specs.declared.PlacementHead.{PlacementHead}
 use Rattle.placement.specs.declared.FeederTable.{FeederTable}
 use Rattle.placement.specs.declared.PlacementCheck.{PlacementCheck}
-use Rattle.placement.specs.declared.PlacementAnswer.TheVariants.{Accepted, Refused as NotAccepted}
 use Rattle.placement.proofs.Answered.{check-refused, check-accepted}
 use Rattle.placement.proofs.Rows.{RowsIn, rows_in}
 use Rattle.placement.proofs.Units.{unit-rows-are}
 use Rattle.placement.proofs.TableRows.{bytes_below, plain-units, fed-units}
-use Rattle.rounds.specs.declared.RoundsAnswer.{RoundsAnswer}
-use Rattle.rounds.specs.declared.RoundsAnswer.TheVariants.{Usable, Refused}
 use Rattle.rounds.specs.Game.{rounds}
 use Rattle.rounds.specs.Rounds.{rounds_taken, rounds_of, check_rounds}
 use Rattle.rounds.specs.Answers.{rounds_answer}
@@ -80,13 +78,13 @@ module _ (bytes : List ℕ) (head : PlacementHead) (q : ℕ) where
   pub first-inside : RowsHeld bytes head → head.first ≤ length bytes
   first-inside held = omega (arith, held.inside)
 
-  pub from-refused : rounds_taken head.n head.b q ≡ false → Refused BadRounds ≡ rounds_answer (rounds_from bytes head q)
+  pub from-refused : rounds_taken head.n head.b q ≡ false → Err BadRounds ≡ rounds_answer (rounds_from bytes head q)
   unfolding rounds_from
   from-refused e = rw e
 
   pub from-taken : {number : ℕ} → rounds_taken head.n head.b q ≡ true
       → number ≡ rounds head.n head.s (rows_at head.r head.b (drop head.first bytes)) q
-      → Usable number ≡ rounds_answer (rounds_from bytes head q)
+      → Ok number ≡ rounds_answer (rounds_from bytes head q)
   unfolding rounds_from
   from-taken e is = rw (e, is)
 
@@ -135,7 +133,7 @@ module _ (bytes : List ℕ) (file : Located Placement) (e : read_placement bytes
 
 -- what the answer of the check says
 module _ (bytes : List ℕ) {check : PlacementCheck} (is : check ≡ placement_checked (read_placement bytes)) where
-  module _ {head : PlacementHead} (a : check.answer ≡ Accepted head) where
+  module _ {head : PlacementHead} (a : check.answer ≡ Ok head) where
     -- a placement without feeders
     module _ (unfed : check.feeders.number ≡ 0) where
       zero_of : (table_of (check-accepted (read_placement bytes) is a).file.content.feeders).number ≡ 0
@@ -172,7 +170,7 @@ module _ (bytes : List ℕ) {check : PlacementCheck} (is : check ≡ placement_c
           (rows_by_table (o.feeders-are i).each (o.head-is i).r (o.head-is i).b (drop (o.head-is i).first bytes) ++ t)
           (feeder_head (o.head-is i) (o.feeders-are i).number) q)
 
-  pub rounds-of-refused : {why : Refusal} → check.answer ≡ NotAccepted why → (q : ℕ) → check_rounds bytes q ≡ refused why
+  pub rounds-of-refused : {why : Refusal} → check.answer ≡ Err why → (q : ℕ) → check_rounds bytes q ≡ refused why
   unfolding check_rounds check_placement
   rounds-of-refused a q = rw (check-refused (read_placement bytes) is a)
 
@@ -194,7 +192,7 @@ module _ {bytes : List ℕ} {head : PlacementHead} {table : FeederTable} (h : Fe
       let long = fed-length in
       record { inside = omega arith; nodes = rw fed-is (h.nodes (drop (head.b * head.r) zeros)) }
 
-  pub fed-played : (q : ℕ) {given : RoundsAnswer} → given ≡ rounds_answer (rounds_from fed (feeder_head head table.number) q)
+  pub fed-played : (q : ℕ) {given : Result ℕ Refusal} → given ≡ rounds_answer (rounds_from fed (feeder_head head table.number) q)
       → FeedersPlayed bytes head table q given
   fed-played q e =
       record {

@@ -1,7 +1,8 @@
 -- What the code's functions over rows ask and give. Assumes nothing.
-use Rattle.std.specs.Prelude.{ℕ, ◌+◌, ◌*◌, ◌≤◌, ◌<◌, ◌≡◌, true, List, ◌++◌, length, take, drop}
+use Rattle.std.specs.Prelude.{ℕ, ◌+◌, ◌*◌, ◌≤◌, ◌<◌, ◌≡◌, true, List, ◌++◌, length, take, drop, Result}
 use Rattle.lists.specs.Lists.{All}
 use Rattle.refusal.specs.declared.Refusal.TheVariants.{BadRounds}
+use Rattle.refusal.specs.declared.Refusal.{Refusal}
 use Rattle.refusal.specs.Checked.{Checked, accepted, ◌>>=◌, require}
 use Rattle.packing.specs.Rows.{rows_at}
 use Rattle.placement.specs.declared.PlacementHead.{PlacementHead}
@@ -10,7 +11,6 @@ use Rattle.placement.specs.Answers.{rows_by_table}
 use Rattle.rounds.specs.Game.{rounds}
 use Rattle.rounds.specs.Rounds.{rounds_taken}
 use Rattle.rounds.specs.Answers.{rounds_answer}
-use Rattle.rounds.specs.declared.RoundsAnswer.{RoundsAnswer}
 
 -- b rows of r bytes, of nodes below ten
 pub record RowsAsked (rows : List ℕ) (r b : ℕ) : Type 0 where
@@ -58,7 +58,7 @@ rounds_from bytes head q = do
   accepted (rounds head.n head.s (rows_at head.r head.b (drop head.first bytes)) q)
 
 -- the answer from the rows of feeders in the code's bytes, whatever stands after them
-pub record FeedersPlayed (bytes : List ℕ) (head : PlacementHead) (table : FeederTable) (q : ℕ) (given : RoundsAnswer) : Type 0 where
+pub record FeedersPlayed (bytes : List ℕ) (head : PlacementHead) (table : FeederTable) (q : ℕ) (given : Result ℕ Refusal) : Type 0 where
   pub after : List ℕ
   pub answer :
       given

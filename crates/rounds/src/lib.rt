@@ -2,10 +2,3 @@
 #![tactic(auto)]
 
 use refusal::Refusal;
-
-// What the call answers: the usable records after the last cut where both sides play their best, or the refusal.
-#[derive(Clone, Copy)]
-pub enum RoundsAnswer {
-    Usable(usize),
-    Refused(Refusal),
-}

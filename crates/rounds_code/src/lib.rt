@@ -10,27 +10,14 @@ ghost use Rattle.rounds.specs.Rounds.{rounds_taken, check_rounds};
 ghost use Rattle.rounds.specs.Answers.{rounds_answer};
 ghost use Rattle.rounds.specs.Asked.{RoundsAsked, RowsHeld, FeedersHeld, FeedersPlayed, rounds_from};
 
-use placement::{FeederTable, PlacementAnswer, PlacementHead};
+use placement::{FeederTable, PlacementHead};
 use refusal::Refusal;
-use rounds::RoundsAnswer;
 
 // Whether the rounds are 1 to 3, the nodes at most 10 and at least two more than the rounds, and the records at most 256.
 fn is_taken(n: usize, b: usize, q: usize) -> bool
     ensures { result ≡ rounds_taken n b q }
 {
-    if q < 1 {
-        return false;
-    }
-    if 3 < q {
-        return false;
-    }
-    if 10 < n {
-        return false;
-    }
-    if n < q + 2 {
-        return false;
-    }
-    b <= 256
+    1 <= q && q <= 3 && n <= 10 && q + 2 <= n && b <= 256
 }
 
 // The number for the rows of a placement within the limits. All states are counted once, then the two sides play.
@@ -49,7 +36,7 @@ fn play(rows: &[u8], head: PlacementHead, q: usize) -> usize
 }
 
 // The answer for an accepted placement.
-fn play_accepted(bytes: &[u8], head: PlacementHead, q: usize) -> RoundsAnswer
+fn play_accepted(bytes: &[u8], head: PlacementHead, q: usize) -> Result<usize, Refusal>
     requires { RowsHeld bytes.now head }
     ensures { result ≡ rounds_answer (rounds_from bytes.now head q) }
 {
@@ -57,14 +44,19 @@ fn play_accepted(bytes: &[u8], head: PlacementHead, q: usize) -> RoundsAnswer
     let b = head.b;
     let first = head.first;
     if !is_taken(n, b, q) {
-        return RoundsAnswer::Refused(Refusal::BadRounds);
+        return Err(Refusal::BadRounds);
     }
     let number = play(&bytes[first..], head, q);
-    RoundsAnswer::Usable(number)
+    Ok(number)
 }
 
 // The answer for an accepted placement with feeders, which stand for its nodes.
-fn play_feeders(bytes: &[u8], head: PlacementHead, table: FeederTable, q: usize) -> RoundsAnswer
+fn play_feeders(
+    bytes: &[u8],
+    head: PlacementHead,
+    table: FeederTable,
+    q: usize,
+) -> Result<usize, Refusal>
     requires { FeedersHeld bytes.now head table }
     ensures { FeedersPlayed bytes.now head table q result }
 {
@@ -98,19 +90,14 @@ fn play_feeders(bytes: &[u8], head: PlacementHead, table: FeederTable, q: usize)
 //
 // The number is the fewest usable records over all sets of q + 1 nodes, and so at least the curve's figure: `k-rounds` in
 // `promises`.
-pub fn rounds(bytes: &[u8], q: usize) -> RoundsAnswer
+pub fn rounds(bytes: &[u8], q: usize) -> Result<usize, Refusal>
     ensures { result ≡ rounds_answer (check_rounds bytes.now q) }
 {
     let check = placement_code::check_placement(bytes);
-    let answer = check.answer;
+    let head = check.answer?;
     let table = check.feeders;
-    match answer {
-        PlacementAnswer::Refused(e) => RoundsAnswer::Refused(e),
-        PlacementAnswer::Accepted(head) => {
-            if table.number == 0 {
-                return play_accepted(bytes, head, q);
-            }
-            play_feeders(bytes, head, table, q)
-        }
+    if table.number == 0 {
+        return play_accepted(bytes, head, q);
     }
+    play_feeders(bytes, head, table, q)
 }

@@ -13,13 +13,10 @@ fn kept(row: &[u8], s: usize, state: usize) -> usize
     ensures { result ≡ tally (ltb (hits (down_in state) row.now) s) 0 }
 {
     let mut hit: usize = 0;
-    let mut i: usize = 0;
-    while i < row.len() {
-        let v = row[i] as usize;
-        hit += (state >> v) % 2;
-        i += 1;
+    for v in row {
+        hit += (state >> *v) % 2;
     }
-    if hit < s { 1 } else { 0 }
+    usize::from(hit < s)
 }
 
 // How many of the b rows are usable in the state.
@@ -28,12 +25,10 @@ fn usable_in(rows: &[u8], r: usize, s: usize, b: usize, state: usize) -> usize
     ensures { result ≡ usable_of s (rows_at r b rows.now) (down_in state) }
 {
     let mut usable: usize = 0;
-    let mut j: usize = 0;
-    while j < b {
+    for j in 0..b {
         let at = j * r;
         let end = at + r;
         usable += kept(&rows[at..end], s, state);
-        j += 1;
     }
     usable
 }
@@ -46,10 +41,8 @@ fn put_states(rows: &[u8], r: usize, s: usize, b: usize, n: usize, table: &mut [
         ≡ sets table.old 0 (map (λ state. usable_of s (rows_at r b rows.now) (down_in state)) (up_to (2 ^ n))) }
 {
     let states: usize = 1 << n;
-    let mut state: usize = 0;
-    while state < states {
+    for state in 0..states {
         table[state] = usable_in(rows, r, s, b, state) as u16;
-        state += 1;
     }
 }
 
@@ -60,21 +53,11 @@ pub(crate) fn count_states(rows: &[u8], r: usize, s: usize, b: usize, n: usize, 
     ensures { table.new
         ≡ sets table.old 0 (map (λ state. usable_of s (rows_at r b rows.now) (down_in state)) (up_to (2 ^ n))) }
 {
-    if r == 5 {
-        put_states(rows, 5, s, b, n, table);
-        return;
+    match r {
+        5 => put_states(rows, 5, s, b, n, table),
+        4 => put_states(rows, 4, s, b, n, table),
+        3 => put_states(rows, 3, s, b, n, table),
+        2 => put_states(rows, 2, s, b, n, table),
+        _ => put_states(rows, r, s, b, n, table),
     }
-    if r == 4 {
-        put_states(rows, 4, s, b, n, table);
-        return;
-    }
-    if r == 3 {
-        put_states(rows, 3, s, b, n, table);
-        return;
-    }
-    if r == 2 {
-        put_states(rows, 2, s, b, n, table);
-        return;
-    }
-    put_states(rows, r, s, b, n, table);
 }

@@ -10,27 +10,19 @@ pub fn storm(usable: &[u16], n: usize, b: usize, repairs: usize, state: usize) -
     ensures { StormGives usable.now n b repairs state result }
 {
     let mut fewest = b;
-    let mut v: usize = 0;
-    while v < n {
+    for v in 0..n {
         if is_down(state, v) {
-            v += 1;
             continue;
         }
         let one = state + bit(v);
-        let mut u: usize = 0;
-        while u < v {
+        for u in 0..v {
             if is_down(state, u) {
-                u += 1;
                 continue;
             }
             let both = one + bit(u);
             let given = crew(usable, n, b, repairs, both);
-            u += 1;
-            if given < fewest {
-                fewest = given;
-            }
+            fewest = fewest.min(given);
         }
-        v += 1;
     }
     fewest
 }
@@ -43,22 +35,17 @@ fn crew(usable: &[u16], n: usize, b: usize, repairs: usize, state: usize) -> usi
     ensures { CrewGives usable.now n b repairs state result }
 {
     if repairs == 0 {
-        return usable[state] as usize;
+        return usize::from(usable[state]);
     }
     let left = repairs - 1;
     let mut most: usize = 0;
-    let mut v: usize = 0;
-    while v < n {
+    for v in 0..n {
         if !is_down(state, v) {
-            v += 1;
             continue;
         }
         let back = state - bit(v);
         let given = storm(usable, n, b, left, back);
-        v += 1;
-        if most < given {
-            most = given;
-        }
+        most = most.max(given);
     }
     most
 }

@@ -30,13 +30,13 @@ later-later_by : (j : ℕ) (o : Option ℕ) → later (later_by j o) ≡ later_b
 later-later_by j none = refl
 later-later_by j (some i) = let e : suc (j + i) ≡ suc j + i = omega arith in rw e
 
--- the first bad one of the rows from row j on, which begin at byte `at`, by its number among all c rows
-abbrev pub bad_from : (n r c : ℕ) (s : List ℕ) (j at : ℕ) → Option ℕ
-bad_from n r c s j at = later_by j (first_bad n (rows_at r (c - j) (drop at s)))
+-- the first bad one of the rows from row j on, by its number among all c rows
+abbrev pub bad_from : (n r c : ℕ) (s : List ℕ) (j : ℕ) → Option ℕ
+bad_from n r c s j = later_by j (first_bad n (rows_at r (c - j) (drop (j * r) s)))
 
 -- past rows that are in order
 pub bad-past : (n r j c : ℕ) (s : List ℕ) → j ≤ c → All (λ row. T (is_in_order n row)) (rows_at r j s)
-    → first_bad n (rows_at r c s) ≡ bad_from n r c s j (j * r)
+    → first_bad n (rows_at r c s) ≡ bad_from n r c s j
 unfolding first_where rows_at first_bad
 bad-past n r zero c s h all =
     let e : c - 0 ≡ c = omega arith in
@@ -51,27 +51,27 @@ bad-past n r (suc j) (suc c) s h all =
     in
     rw (e, d, true-T (is_in_order n (take r s)) all.0) (ap later rest ∙ later-later_by j left)
 
-pub bad-of-end : (n r c : ℕ) (s : List ℕ) (j at : ℕ) → c ≤ j → bad_from n r c s j at ≡ none
+pub bad-of-end : (n r c : ℕ) (s : List ℕ) (j : ℕ) → c ≤ j → bad_from n r c s j ≡ none
 unfolding first_where rows_at first_bad
-bad-of-end n r c s j at h = let e : c - j ≡ 0 = omega arith in rw e
+bad-of-end n r c s j h = let e : c - j ≡ 0 = omega arith in rw e
 
-module _ (n r c : ℕ) (s : List ℕ) (j at : ℕ) (h : j < c) where
+module _ (n r c : ℕ) (s : List ℕ) (j : ℕ) (h : j < c) where
   left : c - j ≡ suc (c - (j + 1))
   left = omega arith
 
-  row : at + r - at ≡ r
+  row : j * r + r - j * r ≡ r
   row = omega arith
 
-  pub bad-of-here : is_in_order n (take (at + r - at) (drop at s)) ≡ false → bad_from n r c s j at ≡ some j
+  pub bad-of-here : is_in_order n (take (j * r + r - j * r) (drop (j * r) s)) ≡ false → bad_from n r c s j ≡ some j
   unfolding first_where rows_at first_bad
   bad-of-here e =
-      let f : is_in_order n (take r (drop at s)) ≡ false = rw row at e in
+      let f : is_in_order n (take r (drop (j * r) s)) ≡ false = rw row at e in
       let z : j + 0 ≡ j = omega arith in
       rw (left, f, z)
 
-  pub bad-of-next : is_in_order n (take (at + r - at) (drop at s)) ≡ true
-      → bad_from n r c s j at ≡ bad_from n r c s (j + 1) (at + r)
+  pub bad-of-next : is_in_order n (take (j * r + r - j * r) (drop (j * r) s)) ≡ true → bad_from n r c s j ≡ bad_from n r c s (j + 1)
   unfolding first_where rows_at first_bad
   bad-of-next e =
-      let f : is_in_order n (take r (drop at s)) ≡ true = rw row at e in
-      rw (left, f, drop-drop r at s) (later_by-later j (first_bad n (rows_at r (c - (j + 1)) (drop (at + r) s))))
+      let f : is_in_order n (take r (drop (j * r) s)) ≡ true = rw row at e in
+      let next : (j + 1) * r ≡ j * r + r = omega arith in
+      rw (left, f, next, drop-drop r (j * r) s) (later_by-later j (first_bad n (rows_at r (c - (j + 1)) (drop (j * r + r) s))))

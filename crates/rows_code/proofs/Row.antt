@@ -2,7 +2,7 @@
 use Prim.Native.Nat.{ℕ, suc, ◌+◌, ◌≤◌, ◌<◌}
 use native.Mathlib.Numerals.{add-one}
 use native.Mathlib.Omega.{arith}
-use mathlib.Core.Path.{◌≡◌, refl, ◌∙◌, ap}
+use mathlib.Core.Path.{◌≡◌, refl}
 use mathlib.Core.Bool.{Bool, true, false, ◌&&◌, and_comm}
 use mathlib.Core.List.{List, [], ◌∷◌}
 use lib.Dec.{T, ltb, leb→le}
@@ -31,14 +31,10 @@ unfolding ascending every
 order-of-none row n h = let none : drop 0 row ≡ [] = drop_of_length-le row h in rw none
 
 -- the first node is above none
-pub order-of-first : (row : List ℕ) (n : ℕ) → 0 < length row → is_in_order n row ≡ order_after n (get_or row 0 0) (drop 1 row)
+pub order-of-first : (row rest : List ℕ) (n v : ℕ) → row ≡ v ∷ rest → is_in_order n row ≡ order_after n v rest
 unfolding ascending every
-order-of-first row n h =
-    let v = get_or row 0 0 in
-    let split : drop 0 row ≡ v ∷ drop 1 row = drop-cons row 0 0 h in
-    ap (is_in_order n) split
-    ∙ rw (le-leb 0 v (omega arith))
-    (test-last (ascending (suc v) (drop 1 row)) (ltb v n) (every (λ w. ltb w n) (drop 1 row)))
+order-of-first row rest n v e =
+    rw (e, le-leb 0 v (omega arith)) (test-last (ascending (suc v) rest) (ltb v n) (every (λ w. ltb w n) rest))
 
 module _ (row : List ℕ) (n last i : ℕ) (h : i < length row) where
   pub order-of-low : ltb last (get_or row i 0) ≡ false → order_after n last (drop i row) ≡ false

@@ -9,7 +9,7 @@ ghost use Rattle.packing.specs.Rows.{is_in_order, rows_at, first_bad};
 ghost use Rattle.packing.specs.Answers.{row_found};
 ghost use Rattle.rows_code.specs.Marks.{marks_of};
 
-use packing::{Node, Record, RowFound};
+use packing::{Node, Record};
 pub use rows_writer::{copy_bytes, write_rows};
 
 // Whether the second node's number is above the first one's.
@@ -23,52 +23,46 @@ fn ascend(a: Node, b: Node) -> bool
 fn is_below(node: Node, n: usize) -> bool
     ensures { result ≡ ltb node.0 n }
 {
-    let v = node.0;
-    (v as usize) < n
+    usize::from(node.0) < n
 }
 
 // Whether the row's nodes are strictly ascending and all below n: of ascending nodes only the last is compared with n.
 pub fn row_in_order(row: &[u8], n: usize) -> bool
     ensures { result ≡ is_in_order n row.now }
 {
-    if row.len() == 0 {
+    let Some((first, others)) = row.split_first() else {
         return true;
-    }
-    let mut last = Node(row[0]);
-    let mut i: usize = 1;
-    while i < row.len() {
-        let node = Node(row[i]);
+    };
+    let mut last = Node(*first);
+    for v in others {
+        let node = Node(*v);
         if !ascend(last, node) {
             return false;
         }
         last = node;
-        i += 1;
     }
     is_below(last, n)
 }
 
 // The first of the c rows of r bytes that is not strictly ascending or has a node at or above n. The first `start` rows are in order.
-fn bad_row(rows: &[u8], c: usize, r: usize, n: usize, start: usize) -> RowFound
+fn bad_row(rows: &[u8], c: usize, r: usize, n: usize, start: usize) -> Option<Record>
     requires r_in_bounds { c * r ≤ length rows.now }
     requires start_le_c { start ≤ c }
     requires all { All (λ row. T (is_in_order n row)) (rows_at r start rows.now) }
     ensures { result ≡ row_found (first_bad n (rows_at r c rows.now)) }
 {
-    let mut j = start;
-    let mut at = start * r;
-    while j < c {
+    for j in start..c {
+        let at = j * r;
         let end = at + r;
         if !row_in_order(&rows[at..end], n) {
-            return RowFound::At(Record(j));
+            return Some(Record(j));
         }
-        at = end;
-        j += 1;
     }
-    RowFound::Nothing
+    None
 }
 
 // The same, past sixteen rows at a time as long as they are in order.
-fn bad_of(rows: &[u8], c: usize, r: usize, n: usize, start: usize, marks: &[u8]) -> RowFound
+fn bad_of(rows: &[u8], c: usize, r: usize, n: usize, start: usize, marks: &[u8]) -> Option<Record>
     requires r_nonzero { 0 < r }
     requires r_in_bounds { c * r ≤ length rows.now }
     requires start_le_c { start ≤ c }
@@ -83,33 +77,36 @@ fn bad_of(rows: &[u8], c: usize, r: usize, n: usize, start: usize, marks: &[u8])
 // The first of the c rows of r bytes that is not strictly ascending or has a node at or above n. The first `start` rows are in order,
 // and are not looked at again. For a length that is written as a number the compiler lays out the whole row, and the bytes of sixteen
 // rows. The marks are 255 at each row's last byte and 0 elsewhere, eight rows to a line.
-pub fn first_bad(rows: &[u8], c: usize, r: usize, n: usize, start: usize) -> RowFound
+#[tactic(auto, unfolding(crate::specs::Marks::row_marks, crate::specs::Marks::marks_of))]
+pub fn first_bad(rows: &[u8], c: usize, r: usize, n: usize, start: usize) -> Option<Record>
     requires r_in_bounds { c * r ≤ length rows.now }
     requires start_le_c { start ≤ c }
     requires all { All (λ row. T (is_in_order n row)) (rows_at r start rows.now) }
     ensures { result ≡ row_found (first_bad n (rows_at r c rows.now)) }
 {
-    if r == 5 {
-        let marks =
-            b"\0\0\0\0\xff\0\0\0\0\xff\0\0\0\0\xff\0\0\0\0\xff\0\0\0\0\xff\0\0\0\0\xff\0\0\0\0\xff\0\0\0\0\xff\
-            \0\0\0\0\xff\0\0\0\0\xff\0\0\0\0\xff\0\0\0\0\xff\0\0\0\0\xff\0\0\0\0\xff\0\0\0\0\xff\0\0\0\0\xff";
-        return bad_of(rows, c, 5, n, start, marks);
+    match r {
+        5 => {
+            let marks =
+                b"\0\0\0\0\xff\0\0\0\0\xff\0\0\0\0\xff\0\0\0\0\xff\0\0\0\0\xff\0\0\0\0\xff\0\0\0\0\xff\0\0\0\0\xff\
+                \0\0\0\0\xff\0\0\0\0\xff\0\0\0\0\xff\0\0\0\0\xff\0\0\0\0\xff\0\0\0\0\xff\0\0\0\0\xff\0\0\0\0\xff";
+            bad_of(rows, c, 5, n, start, marks)
+        }
+        4 => {
+            let marks =
+                b"\0\0\0\xff\0\0\0\xff\0\0\0\xff\0\0\0\xff\0\0\0\xff\0\0\0\xff\0\0\0\xff\0\0\0\xff\
+                \0\0\0\xff\0\0\0\xff\0\0\0\xff\0\0\0\xff\0\0\0\xff\0\0\0\xff\0\0\0\xff\0\0\0\xff";
+            bad_of(rows, c, 4, n, start, marks)
+        }
+        3 => {
+            let marks = b"\0\0\xff\0\0\xff\0\0\xff\0\0\xff\0\0\xff\0\0\xff\0\0\xff\0\0\xff\
+                \0\0\xff\0\0\xff\0\0\xff\0\0\xff\0\0\xff\0\0\xff\0\0\xff\0\0\xff";
+            bad_of(rows, c, 3, n, start, marks)
+        }
+        2 => {
+            let marks = b"\0\xff\0\xff\0\xff\0\xff\0\xff\0\xff\0\xff\0\xff\
+                \0\xff\0\xff\0\xff\0\xff\0\xff\0\xff\0\xff\0\xff";
+            bad_of(rows, c, 2, n, start, marks)
+        }
+        _ => bad_row(rows, c, r, n, start),
     }
-    if r == 4 {
-        let marks =
-            b"\0\0\0\xff\0\0\0\xff\0\0\0\xff\0\0\0\xff\0\0\0\xff\0\0\0\xff\0\0\0\xff\0\0\0\xff\
-            \0\0\0\xff\0\0\0\xff\0\0\0\xff\0\0\0\xff\0\0\0\xff\0\0\0\xff\0\0\0\xff\0\0\0\xff";
-        return bad_of(rows, c, 4, n, start, marks);
-    }
-    if r == 3 {
-        let marks = b"\0\0\xff\0\0\xff\0\0\xff\0\0\xff\0\0\xff\0\0\xff\0\0\xff\0\0\xff\
-            \0\0\xff\0\0\xff\0\0\xff\0\0\xff\0\0\xff\0\0\xff\0\0\xff\0\0\xff";
-        return bad_of(rows, c, 3, n, start, marks);
-    }
-    if r == 2 {
-        let marks = b"\0\xff\0\xff\0\xff\0\xff\0\xff\0\xff\0\xff\0\xff\
-            \0\xff\0\xff\0\xff\0\xff\0\xff\0\xff\0\xff\0\xff";
-        return bad_of(rows, c, 2, n, start, marks);
-    }
-    bad_row(rows, c, r, n, start)
 }

@@ -4,33 +4,18 @@ ghost use Rattle.lists.specs.Lists.{All};
 ghost use Rattle.packing.specs.Rows.{is_in_order, rows_at};
 ghost use Rattle.rows_code.specs.Marks.{marks_of, below_next};
 
-fn larger(a: u8, b: u8) -> u8
-    ensures { result ≡ max a b }
-{
-    if a < b { b } else { a }
-}
-
-fn smaller(a: u8, b: u8) -> u8
-    ensures { result ≡ min a b }
-{
-    if a < b { a } else { b }
-}
-
 // n as a byte. An n above 255 takes every byte, and 255 one less: the rows that have it are looked at one by one.
 fn top_of(n: usize) -> u8
     ensures { result ≤ n }
 {
-    if n > 255 {
-        return 255;
-    }
-    n as u8
+    u8::try_from(n).unwrap_or(255)
 }
 
 // One comparison for both bounds: the next node, or the mark above it, and the top.
 fn keeps_order(node: u8, next: u8, mark: u8, top: u8) -> bool
     ensures { result ≡ ltb node (min (max next mark) top) }
 {
-    node < smaller(larger(next, mark), top)
+    node < next.max(mark).min(top)
 }
 
 // Whether each of the bytes from `at` on, one for each mark, is below the top and below the next byte or its mark.
@@ -39,11 +24,9 @@ fn all_below(rows: &[u8], at: usize, marks: &[u8], top: u8) -> bool
     ensures { result ≡ below_next top rows.now at marks.now }
 {
     let mut fine = true;
-    let mut i: usize = 0;
-    while i < marks.len() {
+    for (i, mark) in marks.iter().enumerate() {
         let here = at + i;
-        fine = fine & keeps_order(rows[here], rows[here + 1], marks[i], top);
-        i += 1;
+        fine &= keeps_order(rows[here], rows[here + 1], *mark, top);
     }
     fine
 }
@@ -69,6 +52,7 @@ pub(crate) fn past_sixteens(
     let top = top_of(n);
     let mut j = start;
     let mut at = start * r;
+    // A while loop: a turn moves on by sixteen rows, as long as more are left.
     while c - j > 16 {
         if !all_below(rows, at, marks, top) {
             return j;

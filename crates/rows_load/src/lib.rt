@@ -18,32 +18,22 @@ fn count_bytes(bytes: &[u8], from: usize, end: usize, counts: &mut [u16])
     requires counted { Counted bytes.now from counts.old }
     ensures { Counted bytes.now end counts.new }
 {
-    let mut seen = from;
-    while seen < end {
-        let v = bytes[seen] as usize;
-        let before = counts[v];
-        counts[v] = before + 1;
-        seen += 1;
+    for seen in from..end {
+        let v = usize::from(bytes[seen]);
+        counts[v] += 1;
     }
 }
 
-fn larger(a: u16, b: u16) -> u16
-    ensures { result ≡ max a b }
-{
-    if a < b { b } else { a }
-}
-
 // The largest of the counts, 0 where there is none.
+#[tactic(auto, using(lists::proofs::Largest::largest_more, lists::proofs::Largest::largest_all))]
 fn largest_count(counts: &[u16]) -> usize
     ensures { result ≡ largest counts.now }
 {
     let mut most: u16 = 0;
-    let mut looked: usize = 0;
-    while looked < counts.len() {
-        most = larger(most, counts[looked]);
-        looked += 1;
+    for n in counts {
+        most = most.max(*n);
     }
-    most as usize
+    usize::from(most)
 }
 
 // How many of the c rows of r bytes hold node 0, how many node 1, and so on, by one pass over the rows. An ascending row has

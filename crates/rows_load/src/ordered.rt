@@ -15,9 +15,8 @@ fn load_of(rows: &[u8], c: usize, r: usize, n: usize) -> OrderedLoad
     ensures { Ordered n r c rows.now result.good result.load }
 {
     let mut counts = [0u16; 256];
-    let mut j: usize = 0;
-    let mut at: usize = 0;
-    while j < c {
+    for j in 0..c {
+        let at = j * r;
         let end = at + r;
         if !rows_code::row_in_order(&rows[at..end], n) {
             return OrderedLoad {
@@ -26,8 +25,6 @@ fn load_of(rows: &[u8], c: usize, r: usize, n: usize) -> OrderedLoad
             };
         }
         crate::count_bytes(rows, at, end, &mut counts);
-        at = end;
-        j += 1;
     }
     let load = crate::largest_count(&counts[0..256]);
     OrderedLoad { good: true, load }
@@ -39,17 +36,11 @@ pub fn ordered_load(rows: &[u8], c: usize, r: usize, n: usize) -> OrderedLoad
     requires { (c ≤ 4_096) × (r ≤ 5) × (c * r ≤ length rows.now) }
     ensures { Ordered n r c rows.now result.good result.load }
 {
-    if r == 5 {
-        return load_of(rows, c, 5, n);
+    match r {
+        5 => load_of(rows, c, 5, n),
+        4 => load_of(rows, c, 4, n),
+        3 => load_of(rows, c, 3, n),
+        2 => load_of(rows, c, 2, n),
+        _ => load_of(rows, c, r, n),
     }
-    if r == 4 {
-        return load_of(rows, c, 4, n);
-    }
-    if r == 3 {
-        return load_of(rows, c, 3, n);
-    }
-    if r == 2 {
-        return load_of(rows, c, 2, n);
-    }
-    load_of(rows, c, r, n)
 }

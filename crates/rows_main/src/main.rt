@@ -7,7 +7,6 @@ ghost use Rattle.report.specs.Replies.{Replied};
 ghost use Rattle.table.specs.Progress.{pack_most};
 ghost use Rattle.rows_text.specs.Making.{rows_reply};
 
-use report::Reply;
 use table::{PACK_MOST, TEXT_MOST};
 
 // Puts what is written for the input at the start of `out`, and answers its length: such a slice is never refused.
@@ -15,7 +14,7 @@ fn reply(input: &[u8], out: &mut [u8]) -> usize
     requires { pack_most ≤ length out.old }
     ensures { Replied (rows_reply input.now) result out.old out.new }
 {
-    let Reply::Written(length) = rows_text_code::rows_reply(input, out) else {
+    let Ok(length) = rows_text_code::rows_reply(input, out) else {
         return 0;
     };
     length
@@ -30,10 +29,5 @@ fn answer(rt: &(impl Print + Eprint), input: &[u8]) {
 
 fn main(rt: HostRuntime) {
     let mut buffer = [0u8; TEXT_MOST];
-    let taken = console::read_input(&rt, &mut rt.stdin(), &mut buffer);
-    if taken.failure.is_some() {
-        return;
-    }
-    let count = taken.count;
-    answer(&rt, &buffer[0..count]);
+    console::run(&rt, &mut buffer, |input| answer(&rt, input));
 }

@@ -1,14 +1,13 @@
 -- Bare rows as text become a file of bare rows. Assumes nothing.
-use Rattle.std.specs.Prelude.{ℕ, ◌-◌, ◌/◌, List, length, get_or, ltb}
+use Rattle.std.specs.Prelude.{ℕ, ◌-◌, ◌/◌, List, length, get_or, ltb, Result, Ok, Err}
 use Rattle.refusal.specs.Refusals.{number_of, place_of}
 use Rattle.refusal.specs.Checked.{Checked, accepted, refused}
 use Rattle.layers.specs.Layers.{Located}
 use Rattle.certify.specs.Bare.{Bare, read_bare}
-use Rattle.table.specs.declared.Packed.{Packed}
-use Rattle.table.specs.declared.Packed.TheVariants.{Bytes, Bad}
 use Rattle.table.specs.Told.{Told, good, bad, ◌>>=◌, unless, too_long}
 use Rattle.table.specs.Reading.{Draft, draft_bytes, line_at, text_most, or_fault_line}
 use Rattle.rows_text.specs.Reading.{read_text}
+use Rattle.table.specs.declared.Fault.{Fault}
 
 -- the bare rows as their check says: what it refuses (15) is told with the line of its row
 abbrev pub rows_if : Draft → Checked (Located Bare) → Told (List ℕ)
@@ -35,7 +34,7 @@ unfoldable pub rows_reply : (input : List ℕ) → List ℕ
 rows_reply input = or_fault_line (rows_input input)
 
 -- what the check of the bytes says, where `lines` has the lines of the rows and these begin at `first`
-abbrev pub made_as : Checked (Located Bare) → (size : ℕ) (lines : List ℕ) (first r : ℕ) → Packed
-made_as (accepted file) size lines first r = Bytes size
+abbrev pub made_as : Checked (Located Bare) → (size : ℕ) (lines : List ℕ) (first r : ℕ) → Result ℕ Fault
+made_as (accepted file) size lines first r = Ok size
 made_as (refused e) size lines first r =
-    Bad (record { number = number_of e; place = get_or lines ((place_of e - first) / r) 0 })
+    Err (record { number = number_of e; place = get_or lines ((place_of e - first) / r) 0 })

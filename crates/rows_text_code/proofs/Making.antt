@@ -1,5 +1,6 @@
 -- The bytes of the bare rows and what their check says of them. Assumes nothing.
 use Prim.Native.Nat.{ℕ, ◌+◌, ◌-◌, ◌/◌, ◌<◌}
+use Rattle.std.specs.Prelude.{Result, Ok, Err}
 use native.Mathlib.Omega.{arith}
 use mathlib.Core.Path.{◌≡◌, refl, ◌∙◌, ap}
 use mathlib.Core.List.{List, ◌++◌}
@@ -7,9 +8,9 @@ use lib.ListN.{length, take, drop, get_or, length-append}
 use lib.Seq.{length-take-le, take_at}
 use Rattle.lists.specs.Lists.{over_start}
 use Rattle.refusal.specs.declared.Refusal.{Refusal}
-use Rattle.refusal.specs.declared.Verdict.TheVariants.{Good, Refused}
 use Rattle.refusal.specs.Refusals.{number_of, place_of}
 use Rattle.refusal.specs.Checked.{Checked, accepted, refused}
+use Rattle.refusal.proofs.Answered.{answered-err, answered-ok}
 use Rattle.number.specs.Numbers.{forms_of}
 use Rattle.layers.specs.Layers.{Located}
 use Rattle.certify.specs.Bare.{Bare, read_bare}
@@ -17,10 +18,6 @@ use Rattle.certify.specs.Answers.{bare_read}
 use Rattle.certify.specs.declared.BareRead.{BareRead}
 use Rattle.table.specs.declared.Fault.{Fault}
 use Rattle.table.specs.declared.Progress.{Progress}
-use Rattle.table.specs.declared.Added.{Added}
-use Rattle.table.specs.declared.Added.TheVariants.{To, Bad as NotAdded}
-use Rattle.table.specs.declared.Packed.{Packed}
-use Rattle.table.specs.declared.Packed.TheVariants.{Bytes, Bad}
 use Rattle.table.specs.Told.{Told, good, bad, ◌>>=◌}
 use Rattle.table.specs.Reading.{Draft, draft_bytes, line_at}
 use Rattle.table.specs.Progress.{Room, Grown, DraftFits, PackedIn, draft_of}
@@ -30,25 +27,16 @@ use Rattle.rows_text.specs.Making.{rows_if, made_as, rows_draft, rows_of}
 use Rattle.rows_text.proofs.Made.{some-replica}
 
 -- what the check of the bytes says
-module _ (m : Checked (Located Bare)) {read : BareRead} (is : read ≡ bare_read m) (size : ℕ) (lines : List ℕ) (first r : ℕ) where
-  pub made-accepted : read.verdict ≡ Good → Bytes size ≡ made_as m size lines first r
-  made-accepted a = go m (ap (λ k. k.verdict) is)
-    where
-      go : (m : Checked (Located Bare)) → read.verdict ≡ (bare_read m).verdict → Bytes size ≡ made_as m size lines first r
-      go (accepted file) e = refl
-      go (refused why) e = absurd (let z : ◌≡◌ {A = ℕ} 0 1 = cc in omega arith)
+module _ (m : Checked (Located Bare)) {given : Result BareRead Refusal} (is : given ≡ bare_read m) (size : ℕ) (lines : List ℕ) (first r : ℕ) where
+  pub made-accepted : {read : BareRead} → given ≡ Ok read → Ok size ≡ made_as m size lines first r
+  made-accepted a = let (file, taken, made) = answered-ok _ m is a in rw taken refl
 
-  made-refused : {why : Refusal} → read.verdict ≡ Refused why
-      → Bad (record { number = number_of why; place = get_or lines ((place_of why - first) / r) 0 }) ≡ made_as m size lines first r
-  made-refused {why} a = go m (ap (λ k. k.verdict) is)
-    where
-      go : (m : Checked (Located Bare)) → read.verdict ≡ (bare_read m).verdict
-          → Bad (record { number = number_of why; place = get_or lines ((place_of why - first) / r) 0 }) ≡ made_as m size lines first r
-      go (accepted file) e = absurd (let z : ◌≡◌ {A = ℕ} 0 1 = cc in omega arith)
-      go (refused other) e = let same : other ≡ why = cc in rw same refl
+  made-refused : {why : Refusal} → given ≡ Err why
+      → Err (record { number = number_of why; place = get_or lines ((place_of why - first) / r) 0 }) ≡ made_as m size lines first r
+  made-refused a = rw (answered-err _ m is a) refl
 
-  pub made_told : {why : Refusal} {number at place : ℕ} → read.verdict ≡ Refused why → number ≡ number_of why → at ≡ place_of why
-      → place ≡ get_or lines ((at - first) / r) 0 → Bad (record { number = number; place = place }) ≡ made_as m size lines first r
+  pub made_told : {why : Refusal} {number at place : ℕ} → given ≡ Err why → number ≡ number_of why → at ≡ place_of why
+      → place ≡ get_or lines ((at - first) / r) 0 → Err (record { number = number; place = place }) ≡ made_as m size lines first r
   made_told a number_is at-is place_is = rw (number_is, place_is, at-is) (made-refused a)
 
 -- the bare rows of a draft
@@ -60,7 +48,7 @@ module _ (p : Progress) (numbers rows lines : List ℕ) (fits : DraftFits p numb
   made = forms_of (take p.count numbers) ++ take p.place rows
 
   draft-packed : (first : ℕ) (out out₀ : List ℕ) → first ≡ length (forms_of (take p.count numbers))
-      → out ≡ over_start (forms_of (take p.count numbers) ++ take p.place rows) out₀ → (packed : Packed)
+      → out ≡ over_start (forms_of (take p.count numbers) ++ take p.place rows) out₀ → (packed : Result ℕ Fault)
       → packed ≡ made_as (read_bare (take (first + p.place) out)) (length (take (first + p.place) out)) (take p.blocks lines) first p.r
       → PackedIn (rows_draft (draft_of p numbers rows lines)) packed out₀ out
   unfolding rows_draft draft_bytes line_at
@@ -83,7 +71,7 @@ module _ (p : Progress) (numbers rows lines : List ℕ) (fits : DraftFits p numb
     forms-first = let count : p.count - 0 ≡ p.count = omega arith in rw count at first-is
 
     pub draft-told : (out out₀ : List ℕ) → out ≡ over_start (forms_of (take (p.count - 0) (drop 0 numbers)) ++ take (p.place - 0) (drop 0 rows)) out₀
-        → (packed : Packed) → packed ≡ made_as (read_bare (take (first + p.place - 0) (drop 0 out))) (length (take (first + p.place - 0) (drop 0 out)))
+        → (packed : Result ℕ Fault) → packed ≡ made_as (read_bare (take (first + p.place - 0) (drop 0 out))) (length (take (first + p.place - 0) (drop 0 out)))
         (take (p.blocks - 0) (drop 0 lines)) first p.r → PackedIn (rows_draft (draft_of p numbers rows lines)) packed out₀ out
     draft-told out out₀ out-is packed is =
         let count : p.count - 0 ≡ p.count = omega arith in
@@ -93,29 +81,29 @@ module _ (p : Progress) (numbers rows lines : List ℕ) (fits : DraftFits p numb
         draft-packed first out out₀ forms-first (rw (count, place) at out-is) packed (rw (whole, blocks) at is)
 
 -- the bare rows of a text
-module _ (text numbers rows lines : List ℕ) (room : Room numbers rows lines) {added : Added} (grown : Grown (read_text text) added numbers rows lines) where
-  pub text-bad : {e : Fault} → added ≡ NotAdded e → (out₀ out : List ℕ) → PackedIn (rows_of text) (Bad e) out₀ out
+module _ (text numbers rows lines : List ℕ) (room : Room numbers rows lines) {added : Result Progress Fault} (grown : Grown (read_text text) added numbers rows lines) where
+  pub text-bad : {e : Fault} → added ≡ Err e → (out₀ out : List ℕ) → PackedIn (rows_of text) (Err e) out₀ out
   unfolding rows_of
   text-bad {e} is out₀ out = go (read_text text) (rw is at grown)
     where
-      go : (told : Told Draft) → Grown told (NotAdded e) numbers rows lines → PackedIn (told >>= rows_draft) (Bad e) out₀ out
+      go : (told : Told Draft) → Grown told (Err e) numbers rows lines → PackedIn (told >>= rows_draft) (Err e) out₀ out
       go (good d) g = absurd g
       go (bad f) g = g
 
-  pub text-fits : {p : Progress} → added ≡ To p → DraftFits p numbers rows lines
+  pub text-fits : {p : Progress} → added ≡ Ok p → DraftFits p numbers rows lines
   text-fits {p} is = go (read_text text) refl (rw is at grown)
     where
-      go : (told : Told Draft) → read_text text ≡ told → Grown told (To p) numbers rows lines → DraftFits p numbers rows lines
+      go : (told : Told Draft) → read_text text ≡ told → Grown told (Ok p) numbers rows lines → DraftFits p numbers rows lines
       go (good d) e g =
           let some : 0 < d.r = some-replica text e in
           record { kept = g.1; room = room; some-r = rw (← g.0) at some }
       go (bad f) e g = absurd g
 
-  pub text-packed : {p : Progress} → added ≡ To p → (packed : Packed) (out₀ out : List ℕ)
+  pub text-packed : {p : Progress} → added ≡ Ok p → (packed : Result ℕ Fault) (out₀ out : List ℕ)
       → PackedIn (rows_draft (draft_of p numbers rows lines)) packed out₀ out → PackedIn (rows_of text) packed out₀ out
   unfolding rows_of
   text-packed {p} is packed out₀ out made = go (read_text text) (rw is at grown)
     where
-      go : (told : Told Draft) → Grown told (To p) numbers rows lines → PackedIn (told >>= rows_draft) packed out₀ out
+      go : (told : Told Draft) → Grown told (Ok p) numbers rows lines → PackedIn (told >>= rows_draft) packed out₀ out
       go (good d) g = rw (← g.0) made
       go (bad f) g = absurd g

@@ -4,22 +4,19 @@ ghost use Rattle.certify.specs.Bare.{read_bare};
 ghost use Rattle.table.specs.Progress.{Room, DraftFits, PackedIn, draft_of, pack_most};
 ghost use Rattle.rows_text.specs.Making.{made_as, rows_draft, rows_of, rows_input};
 
-use refusal::Verdict;
-use table::{Added, Fault, Packed, Progress, TEXT_MOST};
+use table::{Fault, Progress, TEXT_MOST};
 
 // What the check of the bare rows says: how many bytes they have, or its refusal with the line of its row.
-fn check_made(made: &[u8], lines: &[usize], first: usize, r: usize) -> Packed
+fn check_made(made: &[u8], lines: &[usize], first: usize, r: usize) -> Result<usize, Fault>
     requires { 0 < r }
     ensures { result ≡ made_as (read_bare made.now) (length made.now) lines.now first r }
 {
-    let read = certify_reader::read_bare(made);
-    let verdict = read.verdict;
-    match verdict {
-        Verdict::Good => Packed::Bytes(made.len()),
-        Verdict::Refused(e) => {
+    match certify_reader::read_bare(made) {
+        Ok(_) => Ok(made.len()),
+        Err(e) => {
             let number = refusal_code::number(e);
             let place = draft_code::line_at(lines, refusal_code::place(e), first, r);
-            Packed::Bad(Fault { number, place })
+            Err(Fault { number, place })
         }
     }
 }
@@ -31,7 +28,7 @@ fn rows_draft(
     rows: &[u8],
     lines: &[usize],
     out: &mut [u8],
-) -> Packed
+) -> Result<usize, Fault>
     requires draft_fits { DraftFits p numbers.now rows.now lines.now }
     requires pack_most_in_bounds { pack_most ≤ length out.old }
     ensures { PackedIn (rows_draft (draft_of p numbers.now rows.now lines.now)) result
@@ -53,16 +50,13 @@ fn make_rows(
     rows: &mut [u8],
     lines: &mut [usize],
     out: &mut [u8],
-) -> Packed
+) -> Result<usize, Fault>
     requires room { Room numbers.old rows.old lines.old }
     requires pack_most_in_bounds { pack_most ≤ length out.old }
     ensures { PackedIn (rows_of text.now) result out.old out.new }
 {
-    let added = rows_text_reader::read_text(text, numbers, rows, lines);
-    match added {
-        Added::Bad(e) => Packed::Bad(e),
-        Added::To(p) => rows_draft(p, numbers, rows, lines, out),
-    }
+    let p = rows_text_reader::read_text(text, numbers, rows, lines)?;
+    rows_draft(p, numbers, rows, lines, out)
 }
 
 // The bare rows of a program's input, at the start of `out`; too long a text is refused.
@@ -72,13 +66,13 @@ pub(crate) fn rows_input(
     rows: &mut [u8],
     lines: &mut [usize],
     out: &mut [u8],
-) -> Packed
+) -> Result<usize, Fault>
     requires room { Room numbers.old rows.old lines.old }
     requires pack_most_in_bounds { pack_most ≤ length out.old }
     ensures { PackedIn (rows_input input.now) result out.old out.new }
 {
     if TEXT_MOST <= input.len() {
-        return Packed::Bad(Fault {
+        return Err(Fault {
             number: 24,
             place: TEXT_MOST,
         });

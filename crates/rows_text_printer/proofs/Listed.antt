@@ -1,11 +1,11 @@
 -- The text of bare rows, from what their check hands on. Assumes nothing.
 use Prim.Native.Nat.{ℕ, ◌+◌, ◌*◌, ◌-◌, ◌≤◌}
+use Rattle.std.specs.Prelude.{Result, Ok, Err}
 use native.Mathlib.Omega.{arith}
 use mathlib.Core.Path.{◌≡◌, ◌∙◌, ap}
 use mathlib.Core.List.{List, [], ◌∷◌, ◌++◌, map, flatten}
 use lib.ListN.{length, take, drop, length-append}
 use Rattle.refusal.specs.declared.Refusal.{Refusal}
-use Rattle.refusal.specs.declared.Verdict.TheVariants.{Refused}
 use Rattle.packing.specs.Rows.{rows_at}
 use Rattle.layers.specs.Answers.{dark_list}
 use Rattle.layers.specs.declared.Base.{Base}
@@ -83,14 +83,14 @@ module _ (base : Base) (order : Order) (rows out : List ℕ) (held : BareHeld ba
             (put_both put₁ (put_both put₂ (put_both put₃ put₄)))
 
 -- what was read: the text, or a refusal's line
-module _ (input : List ℕ) {read : BareRead} (is : read ≡ bare_read (read_bare input)) {before after : List ℕ} {next : ℕ} where
-  pub listed : (found : BareFound input is)
+module _ (input : List ℕ) {before after : List ℕ} {next : ℕ} where
+  pub listed : {read : BareRead} (found : BareFound input read)
       → Replied (rows_text (held_bare read.base read.order (take (length input - read.first) (drop read.first input)))) next before after
       → Replied (listing_reply input) next before after
   unfolding listing_reply
   listed found r = rw (found-is input found) r
 
-  pub not_listed : {e : Refusal} → read.verdict ≡ Refused e → Replied (refused_line e) next before after
+  pub not_listed : {given : Result BareRead Refusal} {e : Refusal} → given ≡ bare_read (read_bare input) → given ≡ Err e → Replied (refused_line e) next before after
       → Replied (listing_reply input) next before after
   unfolding listing_reply
-  not_listed why r = rw (bare-refused input is why) r
+  not_listed is why r = rw (bare-refused input is why) r

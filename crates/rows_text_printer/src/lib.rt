@@ -11,8 +11,7 @@ ghost use Rattle.rows_text_print.specs.Printing.{rows_text, listing_reply};
 
 use layers::Base;
 use placement::Order;
-use refusal::{Refusal, Verdict};
-use report::Reply;
+use refusal::Refusal;
 use table::TABLE_MOST;
 
 // Puts the text of bare rows at the start of `out`, and answers its length.
@@ -40,27 +39,22 @@ fn listing_line(input: &[u8], out: &mut [u8]) -> usize
     requires { table_most ≤ length out.old }
     ensures { Replied (listing_reply input.now) result out.old out.new }
 {
-    let read = certify_reader::read_bare(input);
-    let verdict = read.verdict;
-    if let Verdict::Refused(e) = verdict {
-        return report_lines::refused_line(out, e);
+    match certify_reader::read_bare(input) {
+        Err(e) => report_lines::refused_line(out, e),
+        Ok(read) => put_listing(out, &input[read.first..], read.base, read.order),
     }
-    let base = read.base;
-    let order = read.order;
-    let first = read.first;
-    put_listing(out, &input[first..], base, order)
 }
 
 // Puts what `listing` prints for the input at the start of `out`, and answers its length; a slice of fewer than 90,112 bytes is
 // refused.
 //
 // Of accepted bare rows `rows` makes the same file of what is printed: `printed-made` and `same_bytes` in `rows_text_print`.
-pub fn listing_reply(input: &[u8], out: &mut [u8]) -> Reply
+pub fn listing_reply(input: &[u8], out: &mut [u8]) -> Result<usize, Refusal>
     ensures { ReplyDone (into table_most (listing_reply input.now) (length out.old)) out.old out.new result }
 {
     if out.len() < TABLE_MOST {
-        return Reply::Refused(Refusal::ShortOutput(TABLE_MOST));
+        return Err(Refusal::ShortOutput(TABLE_MOST));
     }
     let length = listing_line(input, out);
-    Reply::Written(length)
+    Ok(length)
 }

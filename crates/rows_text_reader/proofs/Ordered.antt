@@ -1,5 +1,6 @@
 -- What the line of s and k adds, where its numbers stand after those of the head so far. Assumes nothing.
 use Prim.Native.Nat.{ℕ, ◌+◌, ◌-◌, ◌≤◌, ◌<◌}
+use Rattle.std.specs.Prelude.{Ok, Err}
 use native.Mathlib.Omega.{arith}
 use native.Mathlib.Numerals.{add-one}
 use mathlib.Core.Path.{◌≡◌, refl, ◌∙◌}
@@ -8,41 +9,15 @@ use mathlib.Core.List.{List, [], ◌∷◌, ◌++◌, append_assoc}
 use lib.ListN.{length, take, drop, get_or, set}
 use lib.Dec.{leb, ltb}
 use lib.Seq.{take-suc-set, take-add, get_or-take, get_or-set_same}
-use borrow.Author.Tests.{eq-eqb, ne_eqb, lt-ltb, le-ltb, lt-leb, le-leb, ltb-true, leb-true}
+use borrow.Author.Tests.{eq-eqb, ne_eqb, lt-ltb, le-ltb, ltb-true, leb-true}
 use Rattle.lists.proofs.Alls.{all_append}
 use Rattle.lists.proofs.Tests.{T_true, true-T, and_left, and_right}
 use Rattle.number.specs.Numbers.{largest_number}
 use Rattle.table.specs.declared.Progress.{Progress}
-use Rattle.table.specs.declared.Added.TheVariants.{To, Bad}
 use Rattle.table.specs.Told.{unreadable, outside}
 use Rattle.table.specs.Progress.{Finds, Adds, found_in}
 use Rattle.table_steps.proofs.Head.{take-two, room_after, found-length, head-length}
 use Rattle.rows_text.specs.Reading.{order_taken, add_order}
-
--- the tests one by one
-module _ (n r numbers s k : ℕ) where
-  pub taken_none : 4 + n ≤ numbers → false ≡ order_taken n r numbers s k
-  unfolding order_taken
-  taken_none h = rw (le-ltb numbers (4 + n) h) refl
-
-  module _ (some : numbers < 4 + n) where
-    pub taken-zero : s < 1 → false ≡ order_taken n r numbers s k
-    unfolding order_taken
-    taken-zero h = rw (lt-ltb numbers (4 + n) some, lt-leb 1 s h) refl
-
-    module _ (least : 1 ≤ s) where
-      pub taken-high : r < s → false ≡ order_taken n r numbers s k
-      unfolding order_taken
-      taken-high h = rw (lt-ltb numbers (4 + n) some, le-leb 1 s least, lt-leb s r h) refl
-
-      module _ (most : s ≤ r) where
-        pub taken-below : k < s → false ≡ order_taken n r numbers s k
-        unfolding order_taken
-        taken-below h = rw (lt-ltb numbers (4 + n) some, le-leb 1 s least, le-leb s r most, lt-leb s k h) refl
-
-        pub taken-last : s ≤ k → ltb k n ≡ order_taken n r numbers s k
-        unfolding order_taken
-        taken-last h = rw (lt-ltb numbers (4 + n) some, le-leb 1 s least, le-leb s r most, le-leb s k h) refl
 
 -- what is taken is within these limits
 pub record OrderKept (n r numbers s k : ℕ) : Type 0 where
@@ -66,18 +41,18 @@ order-kept n r numbers s k e =
 
 module _ (p : Progress) (found : ℕ) (numbers : List ℕ) (finds : Finds p found numbers) (line : ℕ) where
   -- before `rows`
-  pub order-early : p.r ≡ 0 → Adds (add_order line (found_in p found numbers)) p numbers (Bad (unreadable line)) numbers
+  pub order-early : p.r ≡ 0 → Adds (add_order line (found_in p found numbers)) p numbers (Err (unreadable line)) numbers
   unfolding add_order
   order-early z rows lines = rw (le-ltb 0 p.r (omega arith)) refl
 
   module _ (some-r : p.r ≡ 0 → ⊥) where
     -- a second `order`
-    pub order-again : (p.layers ≡ 0 → ⊥) → Adds (add_order line (found_in p found numbers)) p numbers (Bad (unreadable line)) numbers
+    pub order-again : (p.layers ≡ 0 → ⊥) → Adds (add_order line (found_in p found numbers)) p numbers (Err (unreadable line)) numbers
     unfolding add_order
     order-again h rows lines = rw (lt-ltb 0 p.r (omega arith), ne_eqb p.layers 0 h) refl
 
     module _ (none : p.layers ≡ 0) where
-      pub order-count : (found ≡ 2 → ⊥) → Adds (add_order line (found_in p found numbers)) p numbers (Bad (unreadable line)) numbers
+      pub order-count : (found ≡ 2 → ⊥) → Adds (add_order line (found_in p found numbers)) p numbers (Err (unreadable line)) numbers
       unfolding add_order
       order-count h rows lines =
           rw (lt-ltb 0 p.r (omega arith), eq-eqb p.layers 0 none, found-length p found numbers finds, ne_eqb found 2 h) refl
@@ -96,14 +71,14 @@ module _ (p : Progress) (found : ℕ) (numbers : List ℕ) (finds : Finds p foun
         pair = rw two (take-two numbers p.count (omega (arith, room)))
 
         pub order-outside : order_taken p.n p.r p.count s k ≡ false
-            → Adds (add_order line (found_in p found numbers)) p numbers (Bad (outside line)) numbers
+            → Adds (add_order line (found_in p found numbers)) p numbers (Err (outside line)) numbers
         unfolding add_order
         order-outside h rows lines =
             rw (pair, lt-ltb 0 p.r (omega arith), eq-eqb p.layers 0 none, head-length p found numbers finds, h) refl
 
         pub order-added : order_taken p.n p.r p.count s k ≡ true
             → Adds (add_order line (found_in p found numbers)) p numbers
-            (To (record { n = p.n; r = p.r; count = p.count + 3; layers = 1; blocks = p.blocks; place = p.place }))
+            (Ok (record { n = p.n; r = p.r; count = p.count + 3; layers = 1; blocks = p.blocks; place = p.place }))
             (set numbers (p.count + 2) 0)
         unfolding add_order
         order-added h rows lines =

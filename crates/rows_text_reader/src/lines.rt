@@ -5,7 +5,7 @@ ghost use Rattle.rows_text.specs.Reading.{add_numbers, add_content, add_line};
 ghost use Rattle.table.specs.Progress.{Kept, Finds, Room, Grown, draft_of, found_in};
 
 use rows_text::RowsWord;
-use table::{Added, Fault, LineRead, Progress};
+use table::{Fault, Progress};
 
 // How many letters a word has.
 fn word_length(word: RowsWord) -> usize
@@ -34,7 +34,7 @@ fn add_numbers(
     rows: &mut [u8],
     lines: &mut [usize],
     found: Found,
-) -> Added
+) -> Result<Progress, Fault>
     requires finds { Finds p found.count numbers.old }
     requires room { Room numbers.old rows.old lines.old }
     ensures { Grown
@@ -49,7 +49,7 @@ fn add_numbers(
         RowsWord::Order => crate::order::add_order(p, numbers, count, line),
         RowsWord::Plain => {
             if count == 0 {
-                return Added::To(p);
+                return Ok(p);
             }
             table_blocks::add_block(p, numbers, rows, lines, count, line)
         }
@@ -64,7 +64,7 @@ fn add_content(
     rows: &mut [u8],
     lines: &mut [usize],
     line: usize,
-) -> Added
+) -> Result<Progress, Fault>
     requires kept { Kept p (take p.count numbers.old) }
     requires room { Room numbers.old rows.old lines.old }
     ensures { Grown
@@ -75,8 +75,8 @@ fn add_content(
     let start = word_length(word);
     let count = p.count;
     let read = table_lines::read_numbers(&content[start..], &mut numbers[count..]);
-    let LineRead::Numbers(size) = read else {
-        return Added::Bad(Fault {
+    let Some(size) = read else {
+        return Err(Fault {
             number: 23,
             place: line,
         });
@@ -93,7 +93,7 @@ pub(crate) fn add_line(
     rows: &mut [u8],
     lines: &mut [usize],
     line: usize,
-) -> Added
+) -> Result<Progress, Fault>
     requires kept { Kept p (take p.count numbers.old) }
     requires room { Room numbers.old rows.old lines.old }
     ensures { Grown

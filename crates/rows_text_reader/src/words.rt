@@ -5,6 +5,7 @@ ghost use Rattle.rows_text.specs.Words.{word_of};
 use rows_text::RowsWord;
 
 // The word that the line begins with.
+#[tactic(auto, unfolding(rows_text::specs::Words::word_of, table::specs::Lines::begins))]
 pub(crate) fn word_of(line: &[u8]) -> RowsWord
     ensures { result ≡ word_of line.now }
 {

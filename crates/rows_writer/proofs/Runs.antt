@@ -3,38 +3,16 @@ use Prim.Native.Nat.{ℕ, zero, suc, ◌+◌, ◌*◌, ◌-◌, ◌%◌, ◌≤�
 use native.Mathlib.Nat.{mod-add-mod, mod-eq_of_lt, mod-lt, mod_self, mul-le-mul_right, zero-add, zero-mul}
 use native.Mathlib.Numerals.{add-one}
 use native.Mathlib.Omega.{arith}
-use mathlib.Core.Path.{◌≡◌, refl, sym, ap, ◌∙◌}
-use mathlib.Core.List.{List, [], ◌∷◌, ◌++◌, flatten, append_assoc, append-nil}
-use lib.ListN.{length, get_or, take, drop, set, length-append, length-drop, take-append-drop, get_or-append}
-use lib.Seq.{append_snoc, drop-cons, drop-drop, drop_at, get_or-take, length-take-le, set_at, take-add, take_all, take-append-le, take_at, take-suc}
+use mathlib.Core.Path.{◌≡◌, sym, ap, ◌∙◌}
+use mathlib.Core.List.{List, [], ◌++◌, flatten, append_assoc, append-nil}
+use lib.ListN.{length, get_or, take, drop, length-append, length-drop}
+use lib.Seq.{drop-drop, drop_at, length-take-le, take-add, take_all, take-append-le, take_at}
+use Rattle.std.specs.List.{copy_within}
 use Rattle.lists.proofs.Arith.{run-end-le}
 use Rattle.lists.specs.Lists.{over_start, up_to}
 use Rattle.packing.specs.Rows.{rows_at, repeated}
 use Rattle.packing.proofs.RowsAt.{length-rows_at, get_d-rows_at}
 use Rattle.packing.proofs.Blocks.{flatten-repeated-next}
-
--- no byte of the start is written at place `to` yet
-pub copied_none : (old : List ℕ) (to : ℕ) → old ≡ take to old ++ take 0 old ++ drop (to + 0) old
-copied_none old to =
-    let e : to + 0 ≡ to = omega arith in
-    rw (e, append-nil (take to old)) (sym (take-append-drop to old))
-
--- one byte more of the start is written at place `to`
-pub copied_next : (old : List ℕ) (to i : ℕ) → i < to → to + i < length old
-    → let now : List ℕ = take to old ++ take i old ++ drop (to + i) old in
-    set now (to + i) (get_or now i 0) ≡ take to old ++ take (i + 1) old ++ drop (to + (i + 1)) old
-copied_next old to i h fits =
-    let start : length (take to old) ≡ to = length-take-le to old (omega arith) in
-    let both : length (take to old ++ take i old) ≡ to + i =
-    length-append (take to old) (take i old) ∙ omega (arith, start, length-take-le i old (omega arith)) in
-    let same : get_or (take to old ++ take i old ++ drop (to + i) old) i 0 ≡ get_or old i 0 =
-    get_or-append (take to old ++ take i old) (drop (to + i) old) 0 i (omega arith)
-    ∙ get_or-append (take to old) (take i old) 0 i (omega arith) ∙ get_or-take to old i 0 h in
-    let next : to + (i + 1) ≡ suc (to + i) = omega arith in
-    rw (same, drop-cons old (to + i) 0 fits, next, add-one i, take-suc old i 0 (omega arith))
-    (set_at (take to old ++ take i old) (get_or old (to + i) 0) (drop (suc (to + i)) old) (get_or old i 0) (to + i) both
-    ∙ sym (append_snoc (take to old ++ take i old) (get_or old i 0) (drop (suc (to + i)) old))
-    ∙ ap (λ (l : List ℕ). l ++ drop (suc (to + i)) old) (append_assoc (take to old) (take i old) (get_or old i 0 ∷ [])))
 
 -- after whole copies of the blocks they begin anew
 pub repeated-again : (blocks : List (List ℕ)) (w k : ℕ) → w % length blocks ≡ 0
@@ -111,14 +89,9 @@ once-fits out blocks m r c once fit e =
     let right : once ≤ c = omega (arith, e) in
     (omega (arith, mul-le-mul_right r left, fit.1.0), omega (arith, mul-le-mul_right r right, fit.0))
 
--- the blocks are written once: the rest is as it was
-pub record First (out₀ blocks : List ℕ) (m r c once : ℕ) (out : List ℕ) : Type 0 where
-  pub fit : RowsFit out blocks m r c
-  pub run : Run out blocks m r c out once
-  pub rest : drop (c * r) out ≡ drop (c * r) out₀
-
+-- the blocks are written once
 pub run-first : {out₀ blocks : List ℕ} {m r c : ℕ} (out : List ℕ) (once : ℕ) → RowsFit out₀ blocks m r c → once ≡ min m c
-    → out ≡ over_start (take (once * r - 0) (drop 0 blocks)) out₀ → First out₀ blocks m r c once out
+    → out ≡ over_start (take (once * r - 0) (drop 0 blocks)) out₀ → Run out₀ blocks m r c out once
 run-first {out₀} {blocks} {m} {r} {c} out once fit o≡ e =
     let left : once ≤ m = omega (arith, o≡) in
     let right : once ≤ c = omega (arith, o≡) in
@@ -126,31 +99,21 @@ run-first {out₀} {blocks} {m} {r} {c} out once fit o≡ e =
     let room = once-fits out₀ blocks m r c once fit o≡ in
     let long : length (take (once * r) blocks) ≡ once * r = length-take-le (once * r) blocks room.0 in
     let wrote : out ≡ take (once * r) blocks ++ drop (once * r) out₀ = e ∙ rw (part, long) in
-    let same : length out ≡ length out₀ =
-    ap length wrote
-    ∙ length-append (take (once * r) blocks) (drop (once * r) out₀) ∙ simp length-drop (omega (arith, long, room.1)) in
-    let split : once * r + (c * r - once * r) ≡ c * r = omega (arith, mul-le-mul_right r right) in
-    let rest : drop (once * r) out ≡ drop (once * r) out₀ =
-    rw wrote (drop_at (take (once * r) blocks) (drop (once * r) out₀) (once * r) long) in
     record {
-      fit = (rw same fit.0, fit.1);
-      run = record {
-        within = right;
-        some = λ h. omega (arith, fit.1.1 h, o≡);
-        whole = λ h. let all : once ≡ m = omega (arith, o≡) in rw all (mod_self m);
-        same = refl;
-        bytes = wrote ∙ rw (rest, repeated-once r m blocks once left);
-      };
-      rest =
-          rw (← split) (sym (drop-drop (c * r - once * r) (once * r) out)
-          ∙ rw rest (drop-drop (c * r - once * r) (once * r) out₀));
+      within = right;
+      some = λ h. omega (arith, fit.1.1 h, o≡);
+      whole = λ h. let all : once ≡ m = omega (arith, o≡) in rw all (mod_self m);
+      same =
+          ap length wrote
+          ∙ length-append (take (once * r) blocks) (drop (once * r) out₀) ∙ simp length-drop (omega (arith, long, room.1));
+      bytes = wrote ∙ rw (repeated-once r m blocks once left);
     }
 
 -- and what stands there again
 pub run-next : {out₀ blocks out : List ℕ} {m r c written : ℕ} (more : ℕ) → Run out₀ blocks m r c out written
     → RowsFit out₀ blocks m r c → written < c → more ≡ min written (c - written)
-    → Run out₀ blocks m r c (take (written * r) out ++ take (more * r) out ++ drop (written * r + more * r) out) (written + more)
-run-next {out₀} {blocks} {out} {m} {r} {c} {written} more run fit h e =
+    → (now : List ℕ) → now ≡ copy_within out 0 (more * r) (written * r) → Run out₀ blocks m r c now (written + more)
+run-next {out₀} {blocks} {out} {m} {r} {c} {written} more run fit h e now n≡ =
     let rows = rows_at r m blocks in
     let few : written + more ≤ c = omega (arith, e) in
     let most : more ≤ written = omega (arith, e) in
@@ -173,9 +136,10 @@ run-next {out₀} {blocks} {out} {m} {r} {c} {written} more run fit h e =
     sym (drop-drop (more * r) (written * r) out)
     ∙ rw (run.bytes, drop_at (flatten (repeated rows written)) (drop (written * r) out₀) (written * r) long, sum)
     (drop-drop (more * r) (written * r) out₀) in
-    let all : take (written * r) out ++ take (more * r) out ++ drop (written * r + more * r) out
-    ≡ flatten (repeated rows (written + more)) ++ drop ((written + more) * r) out₀ =
-    rw (
+    let part : more * r - 0 ≡ more * r = omega arith in
+    let all : now ≡ flatten (repeated rows (written + more)) ++ drop ((written + more) * r) out₀ =
+    n≡ ∙ rw (
+      part,
       start,
       front,
       back,

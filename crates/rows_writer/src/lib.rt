@@ -11,29 +11,8 @@ pub fn copy_bytes(out: &mut [u8], bytes: &[u8])
     requires { length bytes.now ≤ length out.old }
     ensures { out.new ≡ over_start bytes.now out.old }
 {
-    let mut place: usize = 0;
-    while place < bytes.len() {
-        out[place] = bytes[place];
-        place += 1;
-    }
-}
-
-fn smaller(a: usize, b: usize) -> usize
-    ensures { result ≡ min a b }
-{
-    if a <= b { a } else { b }
-}
-
-// Writes the first `count` bytes of `out` once more, at place `to`.
-fn copy_start(out: &mut [u8], to: usize, count: usize)
-    requires { (count ≤ to) × (to + count ≤ length out.old) }
-    ensures { out.new ≡ take to out.old ++ take count out.old ++ drop (to + count) out.old }
-{
-    let mut i: usize = 0;
-    while i < count {
-        out[to + i] = out[i];
-        i += 1;
-    }
+    let n = bytes.len();
+    out[..n].copy_from_slice(bytes);
 }
 
 // Writes c rows of r bytes to the start of `out`. Row j is block j mod m of the m blocks: the blocks are written once, and then, as
@@ -45,15 +24,16 @@ pub fn write_rows(out: &mut [u8], blocks: &[u8], m: usize, r: usize, c: usize)
     ensures { out.new
         ≡ flatten (repeated (rows_at r m blocks.now) c) ++ drop (c * r) out.old }
 {
-    let once = smaller(m, c);
+    let once = m.min(c);
     let end = once * r;
     copy_bytes(out, &blocks[0..end]);
     let mut written = once;
+    // A while loop: what is written doubles in a turn.
     while written < c {
-        let more = smaller(written, c - written);
+        let more = written.min(c - written);
         let to = written * r;
         let count = more * r;
-        copy_start(out, to, count);
+        out.copy_within(..count, to);
         written += more;
     }
 }

@@ -19,12 +19,10 @@ pub fn choose_counts(layers: [LayerHead; 5], order: Order, work: &mut [u16]) -> 
     split_table::fill(layers, order, work);
     let mut counts = [0usize; 5];
     let mut left = b;
-    let mut x = s - 1;
-    while 0 < x {
+    for x in (1..s).rev() {
         let c = split_count::layer_count(layers, order, work, x, left);
         counts[x] = c;
         left -= c;
-        x -= 1;
     }
     counts[0] = left;
     counts

@@ -49,3 +49,16 @@ module _ (f : ℕ → ℕ) {c best low : ℕ} (s : ScanTo f c best low) where
     scan-left h =
         let q : c + (next - c) ≡ next = omega arith in
         rw q at (scan-over (next - c) (λ i l g. let b = between i l (omega arith) in omega arith))
+
+-- the place after, whether it is taken or not
+pub scan-more : (f : ℕ → ℕ) {c best low now best2 low2 : ℕ} → ScanTo f (c - 1) best low → 1 ≤ c → now ≡ f c
+    → ((now ≤ low) × (best2 ≡ c) × (low2 ≡ now)) ⊎ ((low < now) × (best2 ≡ best) × (low2 ≡ low)) → ScanTo f c best2 low2
+scan-more f {c} {best} {low} {now} s pos e chosen = go chosen
+  where
+    same : (i : ℕ) → c - 1 < i → i ≤ c → now ≤ f i
+    same i l g = let q : i ≡ c = omega arith in rw q (omega (arith, e))
+
+    go : {best2 low2 : ℕ} → ((now ≤ low) × (best2 ≡ c) × (low2 ≡ now)) ⊎ ((low < now) × (best2 ≡ best) × (low2 ≡ low))
+        → ScanTo f c best2 low2
+    go (inl (h, b, l)) = rw (b, l) (scan-taken f s (omega arith) e same h)
+    go (inr (h, b, l)) = rw (b, l) (scan-left f s (omega arith) e same h)

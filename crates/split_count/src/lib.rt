@@ -8,7 +8,6 @@ ghost use Rattle.split.specs.Table.{Rising, sum_at, step_loss};
 ghost use Rattle.split.specs.Working.{Countable, Tabled};
 
 use layers::LayerHead;
-use minmax::smaller;
 use placement::Order;
 use split::Steps;
 
@@ -18,11 +17,9 @@ fn count_by_records(below: &[u16], each: usize, left: usize) -> usize
     ensures { result ≡ last_least (sum_at (λ c. c * each) below.now left) left }
 {
     let mut best: usize = 0;
-    let mut least = below[left] as usize;
-    let mut c: usize = 0;
-    while c < left {
-        c += 1;
-        let loss = c * each + below[left - c] as usize;
+    let mut least = usize::from(below[left]);
+    for c in 1..=left {
+        let loss = c * each + usize::from(below[left - c]);
         if loss <= least {
             best = c;
             least = loss;
@@ -38,7 +35,7 @@ fn next_count(c: usize, held: usize, left: usize, records: usize, paid: usize) -
     ensures { result ≡ cond (leb paid records) (min held left) (c + 1) }
 {
     if paid <= records {
-        return smaller(held, left);
+        return held.min(left);
     }
     c + 1
 }
@@ -55,21 +52,22 @@ fn count_by_both(below: &[u16], u: Steps, left: usize) -> usize
     let costs = u.costs;
     let whole = costs[period];
     let mut best: usize = 0;
-    let mut least = below[left] as usize;
+    let mut least = usize::from(below[left]);
     let mut copies: usize = 0;
     let mut paid: usize = 0;
     let mut c: usize = 0;
+    // A while loop: a turn takes one more copy and leaves the count, or moves the count on by one or many.
     while c < left {
         if copies * size == c {
             copies += 1;
             paid = copies / period * whole + costs[copies % period];
-            if least < smaller((c + 1) * each, paid) {
+            if least < ((c + 1) * each).min(paid) {
                 return best;
             }
             continue;
         }
         c = next_count(c, copies * size, left, (c + 1) * each, paid);
-        let loss = smaller(c * each, paid) + below[left - c] as usize;
+        let loss = (c * each).min(paid) + usize::from(below[left - c]);
         if loss <= least {
             best = c;
             least = loss;

@@ -5,6 +5,7 @@ use native.Mathlib.Omega.{arith}
 use mathlib.Core.Path.{◌≡◌, refl, sym, ◌∙◌}
 use mathlib.Core.Bool.{Bool, true, false, ◌&&◌, true≢false}
 use lib.Dec.{eqb}
+use Rattle.std.specs.Int.{from_bool}
 use borrow.Author.Tests.{eqb-true}
 use Rattle.lists.specs.Lists.{tally, count, up_to}
 use Rattle.lists.proofs.CountUpTo.{count-up_to-suc, count-up_to-mono}
@@ -18,6 +19,11 @@ pub record CountedTo (f : ℕ → Bool) (n i found : ℕ) : Type 0 where
 tally-le-one : (b : Bool) → tally b 0 ≤ 1
 tally-le-one true = omega arith
 tally-le-one false = omega arith
+
+-- a test as a number
+pub tally-from : (b : Bool) → from_bool b ≡ tally b 0
+tally-from true = refl
+tally-from false = refl
 
 module _ {f : ℕ → Bool} {n : ℕ} where
   pub counted_none : CountedTo f n 0 0

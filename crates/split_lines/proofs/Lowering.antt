@@ -1,7 +1,6 @@
 -- A line of the table with more and more copies: a pass over it entry by entry, and the passes one after another. Assumes nothing.
 use Prim.Native.Nat.{ℕ, suc, ◌+◌, ◌*◌, ◌-◌, ◌≤◌, ◌<◌, min}
 use native.Mathlib.Nat.{le_of_lt, suc-mul}
-use native.Mathlib.Numerals.{add-one}
 use native.Mathlib.Omega.{arith}
 use mathlib.Core.Path.{◌≡◌, refl, sym, ap, ap₂, ◌∙◌}
 use mathlib.Core.List.{List, map}
@@ -137,10 +136,10 @@ module _ {u : Steps} {at w : ℕ} {before periods : List ℕ} (limits : StepLimi
                 ap₂ (λ x y. min x (cost + y)) here (aside.entries i (omega arith))
                 ∙ copies-next u under below.rising d (back + i) e b
 
-    pub copied_more : {cost : ℕ} {after : List ℕ} → d + 1 < u.period → back < w → cost ≡ min (get_or u.costs (d + 1) 0) no_split
+    pub copied_more : {e cost : ℕ} {after : List ℕ} → e ≡ suc d → e < u.period → back < w → cost ≡ min (get_or u.costs e 0) no_split
         → after ≡ stored_to (at + back) work (lowered (at + back) cost work periods) (w - back)
-        → CopiedTo u under at w before (d + 1) (back + u.size) after
-    copied_more more turn e q = rw (add-one d) (copied_next (rw (add-one d) at more) turn (rw (add-one d) at e) q)
+        → CopiedTo u under at w before e (back + u.size) after
+    copied_more one more turn c q = rw one (copied_next (rw one at more) turn (rw one at c) q)
 
     -- all copies were looked at
     pub copied_all : u.period ≤ d + 1 → work ≡ stored_to at before (line_entry u under) w
@@ -149,9 +148,9 @@ module _ {u : Steps} {at w : ℕ} {before periods : List ℕ} (limits : StepLimi
         r.written ∙ ap (λ c. stored_to at before (copies_up_to u under c) w) e
 
     -- one copy more costs, at every entry, all that its records add: it and more are of no use
-    pub copied-enough : {cost : ℕ} → d + 1 < u.period → cost ≡ min (get_or u.costs (d + 1) 0) no_split
+    pub copied-enough : {e cost : ℕ} → e ≡ suc d → e < u.period → cost ≡ min (get_or u.costs e 0) no_split
         → count (climbs (back + u.size) cost periods) (up_to (w - back)) ≡ 0 → work ≡ stored_to at before (line_entry u under) w
-    copied-enough {cost} more e none =
+    copied-enough {cost = cost} one more c none =
         let a = r.at_copies in
         let q : d + (u.period - 1 - d) ≡ u.period - 1 = omega arith in
         r.written
@@ -166,7 +165,7 @@ module _ {u : Steps} {at w : ℕ} {before periods : List ℕ} (limits : StepLimi
             let p : back + u.size + i ≡ suc d * u.size + i = omega arith in
             let low : get_or periods (back + u.size + i) 0 ≤ cost + get_or periods i 0 =
             ltb-false _ _ (none-count (climbs (back + u.size) cost periods) (w - back) none i (omega arith)) in
-            let c = rw (add-one d) at e in
+            let k = rw one at c in
             let x = aside.entries i (omega arith) in
             let y = aside.entries (suc d * u.size + i) (omega arith) in
             omega (arith, x, y, rw p at low)

@@ -6,8 +6,8 @@ use native.Mathlib.Omega.{arith}
 use mathlib.Core.Path.{◌≡◌, refl, sym, ap, ◌∙◌}
 use mathlib.Core.List.{List}
 use lib.ListN.{length, get_or, set, take, drop, length-set, length-drop}
-use lib.Seq.{sets, length-take-le}
-use Rattle.lists.proofs.UpTo.{map-up_to-congr}
+use lib.Seq.{sets, sets-eq, paste, length-take-le}
+use Rattle.lists.proofs.UpTo.{map-up_to-congr, map-get_d-up_to}
 use Rattle.split.specs.declared.Steps.{Steps}
 use Rattle.split.specs.Splits.{no_split}
 use Rattle.split.specs.Table.{StepLimits, stepped, line_entry}
@@ -94,32 +94,18 @@ pub raised-by-records : {u : Steps} {at w : ℕ} {before after : List ℕ} → S
 raised-by-records {u} {at} {w} {before} limits below dear e =
     e ∙ ap (sets before at) (map-up_to-congr _ _ w (λ b h. sym (line_entry-records limits _ below.rising dear b)))
 
--- the entries of the line below before place i stand in the line again
-pub record Repeated (at w : ℕ) (before : List ℕ) (i : ℕ) (work : List ℕ) : Type 0 where
-  pub within : i ≤ w
-  pub same : length work ≡ length before
-  pub written : work ≡ stored_to at before (λ j. get_or (line_under at w before) j 0) i
-
-module _ {at w : ℕ} {before : List ℕ} (below : LineBelow at w before) where
-  abbrev again : ℕ → ℕ
-  again j = get_or (line_under at w before) j 0
-
-  pub repeated-none : Repeated at w before 0 before
-  repeated-none = record { within = omega arith; same = refl; written = stored-none at before again }
-
-  module _ {i : ℕ} {work : List ℕ} (r : Repeated at w before i work) where
-    pub repeated-next : i < w → Repeated at w before (i + 1) (set work (at + i) (get_or work (at - w + i) 0))
-    repeated-next turn =
-        record {
-          within = omega arith;
-          same = length-set work (at + i) (get_or work (at - w + i) 0) ∙ r.same;
-          written = stored_next at before again i _ r.written (under-eq at w before again i below.back turn r.written);
-        }
-
-    pub repeated-all : w ≤ i → work ≡ stored_to at before again w
-    repeated-all h =
-        let e : i ≡ w = let g = r.within in omega arith in
-        r.written ∙ ap (stored_to at before again) e
+-- the line below, copied
+pub repeated : {at w : ℕ} {before : List ℕ} → LineBelow at w before
+    → paste before at (drop (at - w) before) (at - (at - w)) ≡ stored_to at before (λ j. get_or (line_under at w before) j 0) w
+repeated {at} {w} {before} below =
+    let line : List ℕ = line_under at w before in
+    let b = below.back in
+    let f = below.fits in
+    let e : at - (at - w) ≡ w = omega arith in
+    let l : length line ≡ w = length_part (at - w) w before (omega arith) in
+    let same = sym (sets-eq line before at (omega arith)) in
+    ap (λ (n : ℕ). paste before at (drop (at - w) before) n) e
+    ∙ rw l at same ∙ ap (sets before at) (sym (map-get_d-up_to line 0 w l))
 
 -- and where a record costs the mark too, it is the line below again
 pub raised-repeated : {u : Steps} {at w : ℕ} {before after : List ℕ} → StepLimits u → LineBelow at w before

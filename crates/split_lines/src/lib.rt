@@ -10,7 +10,6 @@ ghost use Rattle.lists.specs.Lists.{up_to};
 ghost use Rattle.split.specs.Table.{StepLimits, stepped, line_entry};
 ghost use Rattle.split.specs.Working.{part, LineBelow};
 
-use minmax::smaller;
 use split::Steps;
 
 // Writes the line of w entries at place `at`, the same as the line before it.
@@ -18,12 +17,7 @@ fn repeat_line(work: &mut [u16], at: usize, w: usize)
     requires { LineBelow at w work.old }
     ensures { work.new ≡ sets work.old at (map (λ i. get_or (part (at - w) w work.old) i 0) (up_to w)) }
 {
-    let from = at - w;
-    let mut i: usize = 0;
-    while i < w {
-        work[at + i] = work[from + i];
-        i += 1;
-    }
+    work.copy_within(at - w..at, at);
 }
 
 // Writes the line of w entries at place `at` from the line before it, where each record in the layer is paid for: with one
@@ -34,12 +28,10 @@ fn step_by_records(work: &mut [u16], at: usize, w: usize, each: usize)
 {
     let from = at - w;
     let mut records: usize = 0;
-    let mut i: usize = 0;
-    while i < w {
-        let under = work[from + i] as usize;
-        records = smaller(under, records + each);
+    for i in 0..w {
+        let under = usize::from(work[from + i]);
+        records = under.min(records + each);
         work[at + i] = records as u16;
-        i += 1;
     }
 }
 
@@ -68,7 +60,7 @@ fn raise_by_both(work: &mut [u16], at: usize, w: usize, u: Steps)
     let costs = u.costs;
     let from = at - w;
     let end = size + w;
-    let whole = smaller(costs[period], 8192) as u16;
+    let whole = costs[period].min(8192) as u16;
     let mut periods = [0u16; 8193];
     crate::periods::whole_periods(&mut periods, &work[from..at], size, period * size, whole);
     raise_by_records(work, at, w, each);
@@ -85,7 +77,7 @@ pub fn raise_line(work: &mut [u16], at: usize, w: usize, u: Steps)
     let size = u.size;
     let each = u.each;
     let costs = u.costs;
-    if costs[1] < smaller(8192, size * each) {
+    if costs[1] < (size * each).min(8192) {
         raise_by_both(work, at, w, u);
     } else if each < 8192 {
         raise_by_records(work, at, w, each);

@@ -5,33 +5,16 @@ ghost use Rattle.lists.specs.Lists.{up_to, count, tally};
 ghost use Rattle.split.specs.Table.{StepLimits, Rising, line_entry};
 ghost use Rattle.split.specs.Working.{part, LineBelow, Lowerable, lowered, climbs, ByPeriods};
 
-use minmax::smaller;
 use split::Steps;
-
-// The smaller of two entries.
-pub(crate) fn lesser(a: u16, b: u16) -> u16
-    ensures { result ≡ min a b }
-{
-    if a <= b { a } else { b }
-}
 
 // Each of n entries from place `at` on becomes the smaller of what it is and `cost` above the entry of `line`.
 pub(crate) fn lower(work: &mut [u16], at: usize, n: usize, line: &[u16], cost: u16)
     requires { Lowerable at n cost work.old line.now }
     ensures { work.new ≡ sets work.old at (map (lowered at cost work.old line.now) (up_to n)) }
 {
-    let mut i: usize = 0;
-    while i < n {
-        work[at + i] = lesser(work[at + i], cost + line[i]);
-        i += 1;
+    for i in 0..n {
+        work[at + i] = work[at + i].min(cost + line[i]);
     }
-}
-
-// 1 where b is above a, otherwise 0.
-fn above(a: u16, b: u16) -> u16
-    ensures { result ≡ tally (ltb a b) 0 }
-{
-    if a < b { 1 } else { 0 }
 }
 
 // How many of the first n entries of a line have the entry `shift` places further on more than `cost` above them.
@@ -40,10 +23,8 @@ fn climbing(line: &[u16], shift: usize, n: usize, cost: u16) -> u16
     ensures { result ≡ count (climbs shift cost line.now) (up_to n) }
 {
     let mut found: u16 = 0;
-    let mut i: usize = 0;
-    while i < n {
-        found += above(cost + line[i], line[shift + i]);
-        i += 1;
+    for i in 0..n {
+        found += u16::from(cost + line[i] < line[shift + i]);
     }
     found
 }
@@ -65,7 +46,7 @@ pub(crate) fn is_gentle(line: &[u16], each: u16) -> bool
     requires { (each ≤ 8192) × (length line.now ≤ 4097) × Rising line.now }
     ensures { result ≡ eqb (count (climbs 1 each line.now) (up_to (length line.now - 1))) 0 }
 {
-    if line.len() == 0 {
+    if line.is_empty() {
         return true;
     }
     climbing(line, 1, line.len() - 1, each) == 0
@@ -79,11 +60,12 @@ pub(crate) fn lower_by_copies(work: &mut [u16], at: usize, w: usize, u: Steps, p
 {
     let period = u.period;
     let costs = u.costs;
-    let mut d: usize = 0;
     let mut back: usize = 0;
-    while d + 1 < period && back < w {
-        d += 1;
-        let cost = smaller(costs[d], 8192) as u16;
+    for d in 1..period {
+        if w <= back {
+            return;
+        }
+        let cost = costs[d].min(8192) as u16;
         if is_enough(periods, d, back + u.size, w - back, cost) {
             return;
         }

@@ -3,19 +3,13 @@
 ghost use Rattle.std.specs.Prelude.{◌+◌, ◌≤◌, min, length};
 ghost use Rattle.split.specs.Working.{Stepping, Periods};
 
-use crate::passes::lesser;
-use minmax::smaller;
-
 // Those of the first period.
 fn first_periods(periods: &mut [u16], line: &[u16], size: usize, step: usize, cost: u16)
     requires { Stepping size step cost line.now × Periods size step cost line.now 0 periods.old }
     ensures { Periods size step cost line.now (min step (length line.now)) periods.new }
 {
-    let end = smaller(step, line.len());
-    let mut i: usize = 0;
-    while i < end {
-        periods[size + i] = lesser(line[i], cost);
-        i += 1;
+    for i in 0..step.min(line.len()) {
+        periods[size + i] = line[i].min(cost);
     }
 }
 
@@ -24,11 +18,8 @@ fn next_periods(periods: &mut [u16], line: &[u16], size: usize, step: usize, cos
     requires { Stepping size step cost line.now × (step ≤ from) × (from ≤ length line.now) × Periods size step cost line.now from periods.old }
     ensures { Periods size step cost line.now (min (from + step) (length line.now)) periods.new }
 {
-    let end = smaller(from + step, line.len());
-    let mut i = from;
-    while i < end {
-        periods[size + i] = lesser(line[i], cost + periods[size + i - step]);
-        i += 1;
+    for i in from..line.len().min(from + step) {
+        periods[size + i] = line[i].min(cost + periods[size + i - step]);
     }
 }
 
@@ -38,9 +29,7 @@ pub(crate) fn whole_periods(periods: &mut [u16], line: &[u16], size: usize, step
     ensures { Periods size step cost line.now (length line.now) periods.new }
 {
     first_periods(periods, line, size, step, cost);
-    let mut i = step;
-    while i < line.len() {
-        next_periods(periods, line, size, step, cost, i);
-        i += step;
+    for from in (step..line.len()).step_by(step) {
+        next_periods(periods, line, size, step, cost, from);
     }
 }

@@ -1,7 +1,6 @@
 -- The costs of copies up to a period, stored one after another, and a layer's steps. Assumes nothing.
-use Prim.Native.Nat.{ℕ, ◌+◌, ◌*◌, ◌-◌, ◌≤◌, ◌<◌}
+use Prim.Native.Nat.{ℕ, zero, suc, ◌+◌, ◌*◌, ◌-◌, ◌≤◌, ◌<◌}
 use native.Mathlib.Nat.{zero-add, mul-le-mul}
-use native.Mathlib.Numerals.{add-one}
 use native.Mathlib.Omega.{arith}
 use mathlib.Core.Path.{◌≡◌, refl, sym, ap, ◌∙◌}
 use mathlib.Core.List.{List}
@@ -22,12 +21,16 @@ pub falling-none : (s : ℕ) → s ≡ falling s 0
 unfolding falling
 falling-none s = refl
 
-pub falling-more : (s i : ℕ) → falling s i * (s - (i + 1)) ≡ falling s (i + 1)
+pub falling-next : (s i product : ℕ) → 1 ≤ i → product ≡ falling s (i - 1) → product * (s - i) ≡ falling s i
 unfolding falling
-falling-more s i = rw (add-one i) refl
+falling-next s zero product h e = absurd (omega arith)
+falling-next s (suc i) product h e =
+    let q : suc i - 1 ≡ i = omega arith in
+    let w = rw q at e in
+    rw w refl
 
-pub falling-small : (s i product : ℕ) → s ≤ 5 → i < 4 → product ≡ falling s i → product * (s - (i + 1)) ≤ 120
-falling-small s i product h l e = rw (e, falling-more s i) (falling-le-120 s (i + 1) h (omega arith))
+pub falling-small : (s i product : ℕ) → s ≤ 5 → 1 ≤ i → i < 5 → product ≡ falling s (i - 1) → product * (s - i) ≤ 120
+falling-small s i product h g l e = rw (falling-next s i product g e) (falling-le-120 s i h l)
 
 -- the lambda of a period's copies is small
 pub lambda-le : (d bound : ℕ) → d ≤ 120 → bound ≤ 4_096 → d * bound ≤ 491_520

@@ -16,9 +16,7 @@ fn falling_product(s: usize, x: usize) -> usize
     ensures { result ≡ falling s x }
 {
     let mut product = s;
-    let mut i: usize = 0;
-    while i < x {
-        i += 1;
+    for i in 1..=x {
         product *= s - i;
     }
     product
@@ -32,10 +30,8 @@ fn copy_costs(order: Order, x: usize, bound: usize, period: usize) -> [usize; 12
     let s = order.s;
     let k = order.k;
     let mut costs = [0usize; 121];
-    let mut d: usize = 0;
-    while d <= period {
+    for d in 0..=period {
         costs[d] = floors_down(k, s, x, d * bound);
-        d += 1;
     }
     costs
 }

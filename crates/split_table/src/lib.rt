@@ -19,10 +19,8 @@ pub fn fill(layers: [LayerHead; 5], order: Order, work: &mut [u16])
     let b = order.b;
     let w = b + 1;
     crate::base::base_line(work, w);
-    let mut x: usize = 1;
-    while x < s {
+    for x in 1..s {
         let u = split_steps::steps(layers, order, x - 1);
         split_lines::raise_line(work, x * w, w, u);
-        x += 1;
     }
 }

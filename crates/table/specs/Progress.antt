@@ -1,5 +1,5 @@
 -- What the code that reads a text goes by: where it has what is read so far. Assumes nothing.
-use Rattle.std.specs.Prelude.{ℕ, ◌+◌, ◌*◌, ◌-◌, ◌/◌, ◌≤◌, ◌<◌, ◌≡◌, cond, List, length, take, drop, get_or}
+use Rattle.std.specs.Prelude.{ℕ, ◌+◌, ◌*◌, ◌-◌, ◌/◌, ◌≤◌, ◌<◌, ◌≡◌, cond, List, length, take, drop, get_or, Option as Given, Some, None, Result, Ok, Err}
 use Rattle.std.proofs.Math.Option.{Option, none, some}
 use Rattle.lists.specs.Lists.{All, over_start}
 use Rattle.refusal.specs.Refusals.{number_of, place_of}
@@ -7,13 +7,8 @@ use Rattle.refusal.specs.Checked.{Checked, accepted, refused}
 use Rattle.number.specs.Numbers.{largest_number}
 use Rattle.layers.specs.Layers.{Located}
 use Rattle.pack.specs.Pack.{Pack}
-use Rattle.table.specs.declared.LineRead.{LineRead}
-use Rattle.table.specs.declared.LineRead.TheVariants.{Numbers, Unreadable}
 use Rattle.table.specs.declared.Progress.{Progress}
-use Rattle.table.specs.declared.Added.{Added}
-use Rattle.table.specs.declared.Added.TheVariants.{To, Bad}
-use Rattle.table.specs.declared.Packed.{Packed}
-use Rattle.table.specs.declared.Packed.TheVariants.{Bytes, Bad as NotPacked}
+use Rattle.table.specs.declared.Fault.{Fault}
 use Rattle.table.specs.Told.{Told, good, bad}
 use Rattle.table.specs.Lines.{is_digit, is_blank}
 use Rattle.table.specs.Reading.{Draft}
@@ -23,10 +18,10 @@ abbrev pub digit_of : ℕ → ℕ
 digit_of byte = cond (is_blank byte) 10 (cond (is_digit byte) (byte - 48) 11)
 
 -- the numbers of a line, at the start of a slice, at most 255 of them
-abbrev pub NumbersIn : Option (List ℕ) → LineRead → (slice : List ℕ) → Type 0
-NumbersIn none read slice = read ≡ Unreadable
+abbrev pub NumbersIn : Option (List ℕ) → Given ℕ → (slice : List ℕ) → Type 0
+NumbersIn none read slice = read ≡ None
 NumbersIn (some numbers) read slice =
-    (read ≡ Numbers (length numbers)) × (take (length numbers) slice ≡ numbers) × (length numbers ≤ 255)
+    (read ≡ Some (length numbers)) × (take (length numbers) slice ≡ numbers) × (length numbers ≤ 255)
 
 -- the draft that stands in three slices
 abbrev pub draft_of : Progress → (numbers rows lines : List ℕ) → Draft
@@ -55,18 +50,18 @@ pub record Kept (p : Progress) (head : List ℕ) : Type 0 where
   pub size-most : 0 < p.layers → get_or head (p.count - 1) 0 ≤ p.blocks
 
 -- what a line added to the draft, as the code answers it
-abbrev pub Grown : Told Draft → Added → (numbers rows lines : List ℕ) → Type 0
-Grown (good d) (To p) numbers rows lines = (draft_of p numbers rows lines ≡ d) × Kept p (take p.count numbers)
-Grown (good d) (Bad e) numbers rows lines = ⊥
-Grown (bad e) (To p) numbers rows lines = ⊥
-Grown (bad e) (Bad f) numbers rows lines = f ≡ e
+abbrev pub Grown : Told Draft → Result Progress Fault → (numbers rows lines : List ℕ) → Type 0
+Grown (good d) (Ok p) numbers rows lines = (draft_of p numbers rows lines ≡ d) × Kept p (take p.count numbers)
+Grown (good d) (Err e) numbers rows lines = ⊥
+Grown (bad e) (Ok p) numbers rows lines = ⊥
+Grown (bad e) (Err f) numbers rows lines = f ≡ e
 
 -- the numbers of the line that was read: those after the head's
 abbrev pub found_in : Progress → (found : ℕ) (numbers : List ℕ) → List ℕ
 found_in p found numbers = take found (drop p.count numbers)
 
 -- a step that leaves the blocks and their lines as they are
-abbrev pub Adds : (Draft → Told Draft) → Progress → (numbers : List ℕ) → Added → (after : List ℕ) → Type 0
+abbrev pub Adds : (Draft → Told Draft) → Progress → (numbers : List ℕ) → Result Progress Fault → (after : List ℕ) → Type 0
 Adds step p numbers answer after = (rows lines : List ℕ) → Grown (step (draft_of p numbers rows lines)) answer after rows lines
 
 -- a line's numbers, as the steps find them
@@ -92,14 +87,14 @@ abbrev pub pack_most : ℕ
 pack_most = 21_760
 
 -- a pack at the start of a slice that was lent, as the code answers it
-abbrev pub PackedIn : Told (List ℕ) → Packed → (before after : List ℕ) → Type 0
-PackedIn (good bytes) (Bytes size) before after = (size ≡ length bytes) × (after ≡ over_start bytes before)
-PackedIn (good bytes) (NotPacked e) before after = ⊥
-PackedIn (bad e) (Bytes size) before after = ⊥
-PackedIn (bad e) (NotPacked f) before after = f ≡ e
+abbrev pub PackedIn : Told (List ℕ) → Result ℕ Fault → (before after : List ℕ) → Type 0
+PackedIn (good bytes) (Ok size) before after = (size ≡ length bytes) × (after ≡ over_start bytes before)
+PackedIn (good bytes) (Err e) before after = ⊥
+PackedIn (bad e) (Ok size) before after = ⊥
+PackedIn (bad e) (Err f) before after = f ≡ e
 
 -- what the check of a pack's bytes says, where `lines` has the lines of its blocks and these begin at `first`
-abbrev pub packed_as : Checked (Located Pack) → (size : ℕ) (lines : List ℕ) (first r : ℕ) → Packed
-packed_as (accepted file) size lines first r = Bytes size
+abbrev pub packed_as : Checked (Located Pack) → (size : ℕ) (lines : List ℕ) (first r : ℕ) → Result ℕ Fault
+packed_as (accepted file) size lines first r = Ok size
 packed_as (refused e) size lines first r =
-    NotPacked (record { number = number_of e; place = get_or lines ((place_of e - first) / r) 0 })
+    Err (record { number = number_of e; place = get_or lines ((place_of e - first) / r) 0 })

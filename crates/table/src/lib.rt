@@ -26,13 +26,6 @@ pub enum Word {
     Plain,
 }
 
-// What reading a line's numbers gives: how many there are, or that the line can't be read.
-#[derive(Clone, Copy)]
-pub enum LineRead {
-    Numbers(usize),
-    Unreadable,
-}
-
 // How far a table is read: n and r, 0 before they are read; how many numbers of the pack's head, layers, blocks and bytes of blocks
 // there are.
 #[derive(Clone, Copy)]
@@ -43,18 +36,4 @@ pub struct Progress {
     pub layers: usize,
     pub blocks: usize,
     pub place: usize,
-}
-
-// What a line adds: how far the table is read after it, or why it is refused.
-#[derive(Clone, Copy)]
-pub enum Added {
-    To(Progress),
-    Bad(Fault),
-}
-
-// What making a pack from a text gives: how many bytes it has, or why the text is refused.
-#[derive(Clone, Copy)]
-pub enum Packed {
-    Bytes(usize),
-    Bad(Fault),
 }

@@ -1,5 +1,6 @@
 -- What a block's line adds. Assumes nothing.
 use Prim.Native.Nat.{ℕ, suc, ◌+◌, ◌-◌, ◌≤◌, ◌<◌}
+use Rattle.std.specs.Prelude.{Result, Ok, Err}
 use native.Mathlib.Omega.{arith}
 use native.Mathlib.Numerals.{add-one}
 use mathlib.Core.Path.{◌≡◌, refl, ◌∙◌, ap}
@@ -14,8 +15,7 @@ use Rattle.lists.proofs.Writing.{given_back, append-rest, take-drop-rest}
 use Rattle.number.specs.Numbers.{largest_number}
 use Rattle.packing.specs.Rows.{is_in_order}
 use Rattle.table.specs.declared.Progress.{Progress}
-use Rattle.table.specs.declared.Added.{Added}
-use Rattle.table.specs.declared.Added.TheVariants.{To, Bad}
+use Rattle.table.specs.declared.Fault.{Fault}
 use Rattle.table.specs.Told.{unreadable, outside, bad_block}
 use Rattle.table.specs.Reading.{add_block}
 use Rattle.table.specs.Progress.{Finds, Room, Grown, draft_of, found_in}
@@ -23,10 +23,10 @@ use Rattle.table_steps.proofs.Ordering.{order_below}
 use Rattle.table_steps.proofs.Head.{found-length, head-length, room_after, all_set}
 
 module _ (p : Progress) (found : ℕ) (numbers rows lines : List ℕ) (finds : Finds p found numbers) (room : Room numbers rows lines) (line : ℕ) where
-  abbrev pub Gives : Added → (numbers' rows' lines' : List ℕ) → Type 0
+  abbrev pub Gives : Result Progress Fault → (numbers' rows' lines' : List ℕ) → Type 0
   Gives = Grown (add_block line (found_in p found numbers) (draft_of p numbers rows lines))
 
-  pub block-early : p.layers ≡ 0 → Gives (Bad (unreadable line)) numbers rows lines
+  pub block-early : p.layers ≡ 0 → Gives (Err (unreadable line)) numbers rows lines
   unfolding add_block
   block-early h = rw (le-ltb 0 p.layers (omega arith)) refl
 
@@ -34,12 +34,12 @@ module _ (p : Progress) (found : ℕ) (numbers rows lines : List ℕ) (finds : F
     some-layer : 0 < p.layers
     some-layer = omega arith
 
-    pub block-count : (found ≡ p.r → ⊥) → Gives (Bad (unreadable line)) numbers rows lines
+    pub block-count : (found ≡ p.r → ⊥) → Gives (Err (unreadable line)) numbers rows lines
     unfolding add_block
     block-count h = rw (lt-ltb 0 p.layers some-layer, found-length p found numbers finds, ne_eqb found p.r h) refl
 
     module _ (whole : found ≡ p.r) where
-      pub block-many : 4_096 ≤ p.blocks → Gives (Bad (outside line)) numbers rows lines
+      pub block-many : 4_096 ≤ p.blocks → Gives (Err (outside line)) numbers rows lines
       unfolding add_block
       block-many h =
           rw (lt-ltb 0 p.layers some-layer, found-length p found numbers finds, eq-eqb found p.r whole, le-ltb p.blocks 4_096 h) refl
@@ -50,7 +50,7 @@ module _ (p : Progress) (found : ℕ) (numbers rows lines : List ℕ) (finds : F
         part = let e : p.count + found - p.count ≡ found = omega arith in rw e
 
         pub block-bad : is_in_order p.n (take (p.count + found - p.count) (drop p.count numbers)) ≡ false
-            → Gives (Bad (bad_block line)) numbers rows lines
+            → Gives (Err (bad_block line)) numbers rows lines
         unfolding add_block
         block-bad h =
             rw (
@@ -95,7 +95,7 @@ module _ (p : Progress) (found : ℕ) (numbers rows lines : List ℕ) (finds : F
           numbers-after = rw (add-one m) (take-set-lt p.count numbers (p.count - 1) (suc m) (omega (arith, some_number)))
 
           pub block-taken : {rows' : List ℕ} → rows' ≡ take p.place rows ++ over_start (take (p.count + found - p.count) (drop p.count numbers)) (drop p.place rows)
-              → Gives (To (record { n = p.n; r = p.r; count = p.count; layers = p.layers; blocks = p.blocks + 1; place = p.place + found }))
+              → Gives (Ok (record { n = p.n; r = p.r; count = p.count; layers = p.layers; blocks = p.blocks + 1; place = p.place + found }))
               (set numbers (p.count - 1) (m + 1)) rows' (set lines p.blocks line)
           unfolding add_block
           block-taken {rows'} is =
@@ -139,7 +139,7 @@ module _ (p : Progress) (found : ℕ) (numbers rows lines : List ℕ) (finds : F
           -- the same, where its nodes were written into the part of the slice after the blocks before it
           pub block-stored : {last : List ℕ}
               → last ≡ over_start (take (p.count + found - p.count) (drop p.count numbers)) (take (length rows - p.place) (drop p.place rows))
-              → Gives (To (record { n = p.n; r = p.r; count = p.count; layers = p.layers; blocks = p.blocks + 1; place = p.place + found }))
+              → Gives (Ok (record { n = p.n; r = p.r; count = p.count; layers = p.layers; blocks = p.blocks + 1; place = p.place + found }))
               (set numbers (p.count - 1) (m + 1)) (given_back rows p.place last) (set lines p.blocks line)
           block-stored {last} is =
               block-taken (append-rest rows last p.place

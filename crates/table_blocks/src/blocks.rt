@@ -2,7 +2,7 @@
 ghost use Rattle.table.specs.Reading.{add_block};
 ghost use Rattle.table.specs.Progress.{Finds, Room, Grown, draft_of, found_in};
 
-use table::{Added, Fault, Progress};
+use table::{Fault, Progress};
 
 // A block of the present layer, with its line.
 pub fn add_block(
@@ -12,7 +12,7 @@ pub fn add_block(
     lines: &mut [usize],
     found: usize,
     line: usize,
-) -> Added
+) -> Result<Progress, Fault>
     requires finds { Finds p found numbers.old }
     requires room { Room numbers.old rows.old lines.old }
     ensures { Grown
@@ -26,26 +26,26 @@ pub fn add_block(
     let blocks = p.blocks;
     let place = p.place;
     if layers == 0 {
-        return Added::Bad(Fault {
+        return Err(Fault {
             number: 23,
             place: line,
         });
     }
     if found != r {
-        return Added::Bad(Fault {
+        return Err(Fault {
             number: 23,
             place: line,
         });
     }
     if 4_096 <= blocks {
-        return Added::Bad(Fault {
+        return Err(Fault {
             number: 4,
             place: line,
         });
     }
     let end = count + found;
     if !table_steps::in_order(&numbers[count..end], n) {
-        return Added::Bad(Fault {
+        return Err(Fault {
             number: 6,
             place: line,
         });
@@ -54,7 +54,7 @@ pub fn add_block(
     lines[blocks] = line;
     let last = count - 1;
     numbers[last] = numbers[last] + 1;
-    Added::To(Progress {
+    Ok(Progress {
         n,
         r,
         count,

@@ -8,9 +8,7 @@ pub(crate) fn put_nodes(rows: &mut [u8], nodes: &[usize])
     requires all { All (λ v. v < 256) nodes.now }
     ensures { rows.new ≡ over_start nodes.now rows.old }
 {
-    let mut i: usize = 0;
-    while i < nodes.len() {
-        rows[i] = nodes[i] as u8;
-        i += 1;
+    for (i, node) in nodes.iter().enumerate() {
+        rows[i] = *node as u8;
     }
 }

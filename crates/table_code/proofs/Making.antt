@@ -1,5 +1,6 @@
 -- The pack's bytes and what its check says of them. Assumes nothing.
 use Prim.Native.Nat.{ℕ, ◌+◌, ◌*◌, ◌-◌, ◌/◌, ◌≤◌, ◌<◌}
+use Rattle.std.specs.Prelude.{Result, Ok, Err}
 use native.Mathlib.Omega.{arith}
 use mathlib.Core.Path.{◌≡◌, refl, ◌∙◌, ap}
 use mathlib.Core.List.{List, [], ◌∷◌, ◌++◌, flatten}
@@ -14,15 +15,10 @@ use Rattle.number.proofs.Laws.{number_bytes-length-le-four}
 use Rattle.layers.specs.Layers.{Located}
 use Rattle.pack.specs.Pack.{Pack, read_pack}
 use Rattle.pack.specs.declared.PackHead.{PackHead}
-use Rattle.pack.specs.declared.PackAnswer.TheVariants.{Accepted, Refused}
 use Rattle.pack.specs.declared.PackCheck.{PackCheck}
 use Rattle.pack.specs.Answers.{pack_checked}
 use Rattle.table.specs.declared.Fault.{Fault}
 use Rattle.table.specs.declared.Progress.{Progress}
-use Rattle.table.specs.declared.Added.{Added}
-use Rattle.table.specs.declared.Added.TheVariants.{To, Bad as NotAdded}
-use Rattle.table.specs.declared.Packed.{Packed}
-use Rattle.table.specs.declared.Packed.TheVariants.{Bytes, Bad}
 use Rattle.table.specs.Told.{Told, good, bad, ◌>>=◌}
 use Rattle.table.specs.Reading.{Draft, read_text, draft_bytes, line_at, pack_if, pack_draft, pack_of}
 use Rattle.table.specs.Progress.{Room, Grown, DraftFits, PackedIn, draft_of, packed_as, pack_most}
@@ -37,24 +33,24 @@ forms-length (v ∷ numbers) h =
 
 -- what the check of the bytes says
 module _ (m : Checked (Located Pack)) {check : PackCheck} (is : check ≡ pack_checked m) (size : ℕ) (lines : List ℕ) (first r : ℕ) where
-  pub made-accepted : {head : PackHead} → check.answer ≡ Accepted head → Bytes size ≡ packed_as m size lines first r
+  pub made-accepted : {head : PackHead} → check.answer ≡ Ok head → Ok size ≡ packed_as m size lines first r
   made-accepted {head} a = go m (ap (λ k. k.answer) is)
     where
-      go : (m : Checked (Located Pack)) → check.answer ≡ (pack_checked m).answer → Bytes size ≡ packed_as m size lines first r
+      go : (m : Checked (Located Pack)) → check.answer ≡ (pack_checked m).answer → Ok size ≡ packed_as m size lines first r
       go (accepted file) e = refl
       go (refused why) e = absurd (let z : ◌≡◌ {A = ℕ} 0 1 = cc in omega arith)
 
-  pub made-refused : {why : Refusal} → check.answer ≡ Refused why
-      → Bad (record { number = number_of why; place = get_or lines ((place_of why - first) / r) 0 }) ≡ packed_as m size lines first r
+  pub made-refused : {why : Refusal} → check.answer ≡ Err why
+      → Err (record { number = number_of why; place = get_or lines ((place_of why - first) / r) 0 }) ≡ packed_as m size lines first r
   made-refused {why} a = go m (ap (λ k. k.answer) is)
     where
       go : (m : Checked (Located Pack)) → check.answer ≡ (pack_checked m).answer
-          → Bad (record { number = number_of why; place = get_or lines ((place_of why - first) / r) 0 }) ≡ packed_as m size lines first r
+          → Err (record { number = number_of why; place = get_or lines ((place_of why - first) / r) 0 }) ≡ packed_as m size lines first r
       go (accepted file) e = absurd (let z : ◌≡◌ {A = ℕ} 0 1 = cc in omega arith)
       go (refused other) e = let same : other ≡ why = cc in rw same refl
 
-  pub made_told : {why : Refusal} {number at place : ℕ} → check.answer ≡ Refused why → number ≡ number_of why → at ≡ place_of why
-      → place ≡ get_or lines ((at - first) / r) 0 → Bad (record { number = number; place = place }) ≡ packed_as m size lines first r
+  pub made_told : {why : Refusal} {number at place : ℕ} → check.answer ≡ Err why → number ≡ number_of why → at ≡ place_of why
+      → place ≡ get_or lines ((at - first) / r) 0 → Err (record { number = number; place = place }) ≡ packed_as m size lines first r
   made_told a number_is at-is place_is = rw (number_is, place_is, at-is) (made-refused a)
 
 -- the pack of a draft
@@ -93,7 +89,7 @@ module _ (p : Progress) (numbers rows lines : List ℕ) (fits : DraftFits p numb
   made = forms_of (take p.count numbers) ++ take p.place rows
 
   pub draft-packed : (first : ℕ) (out out₀ : List ℕ) → first ≡ length (forms_of (take p.count numbers))
-      → out ≡ over_start (forms_of (take p.count numbers) ++ take p.place rows) out₀ → (packed : Packed)
+      → out ≡ over_start (forms_of (take p.count numbers) ++ take p.place rows) out₀ → (packed : Result ℕ Fault)
       → packed ≡ packed_as (read_pack (take (first + p.place) out)) (length (take (first + p.place) out)) (take p.blocks lines) first p.r
       → PackedIn (pack_draft (draft_of p numbers rows lines)) packed out₀ out
   unfolding pack_draft draft_bytes line_at
@@ -126,7 +122,7 @@ module _ (p : Progress) (numbers rows lines : List ℕ) (fits : DraftFits p numb
     draft-end = omega (arith, forms-first, draft-room, rows-length)
 
     pub draft-told : (out out₀ : List ℕ) → out ≡ over_start (forms_of (take (p.count - 0) (drop 0 numbers)) ++ take (p.place - 0) (drop 0 rows)) out₀
-        → (packed : Packed) → packed ≡ packed_as (read_pack (take (first + p.place - 0) (drop 0 out))) (length (take (first + p.place - 0) (drop 0 out)))
+        → (packed : Result ℕ Fault) → packed ≡ packed_as (read_pack (take (first + p.place - 0) (drop 0 out))) (length (take (first + p.place - 0) (drop 0 out)))
         (take (p.blocks - 0) (drop 0 lines)) first p.r → PackedIn (pack_draft (draft_of p numbers rows lines)) packed out₀ out
     draft-told out out₀ out-is packed is =
         let count : p.count - 0 ≡ p.count = omega arith in
@@ -136,29 +132,29 @@ module _ (p : Progress) (numbers rows lines : List ℕ) (fits : DraftFits p numb
         draft-packed first out out₀ forms-first (rw (count, place) at out-is) packed (rw (whole, blocks) at is)
 
 -- the pack of a text
-module _ (text numbers rows lines : List ℕ) (room : Room numbers rows lines) {added : Added} (grown : Grown (read_text text) added numbers rows lines) where
-  pub text-bad : {e : Fault} → added ≡ NotAdded e → (out₀ out : List ℕ) → PackedIn (pack_of text) (Bad e) out₀ out
+module _ (text numbers rows lines : List ℕ) (room : Room numbers rows lines) {added : Result Progress Fault} (grown : Grown (read_text text) added numbers rows lines) where
+  pub text-bad : {e : Fault} → added ≡ Err e → (out₀ out : List ℕ) → PackedIn (pack_of text) (Err e) out₀ out
   unfolding pack_of
   text-bad {e} is out₀ out = go (read_text text) (rw is at grown)
     where
-      go : (told : Told Draft) → Grown told (NotAdded e) numbers rows lines → PackedIn (told >>= pack_draft) (Bad e) out₀ out
+      go : (told : Told Draft) → Grown told (Err e) numbers rows lines → PackedIn (told >>= pack_draft) (Err e) out₀ out
       go (good d) g = absurd g
       go (bad f) g = g
 
-  pub text-fits : {p : Progress} → added ≡ To p → DraftFits p numbers rows lines
+  pub text-fits : {p : Progress} → added ≡ Ok p → DraftFits p numbers rows lines
   text-fits {p} is = go (read_text text) refl (rw is at grown)
     where
-      go : (told : Told Draft) → read_text text ≡ told → Grown told (To p) numbers rows lines → DraftFits p numbers rows lines
+      go : (told : Told Draft) → read_text text ≡ told → Grown told (Ok p) numbers rows lines → DraftFits p numbers rows lines
       go (good d) e g =
           let some : 0 < d.r = some-replica text e in
           record { kept = g.1; room = room; some-r = rw (← g.0) at some }
       go (bad f) e g = absurd g
 
-  pub text-packed : {p : Progress} → added ≡ To p → (packed : Packed) (out₀ out : List ℕ)
+  pub text-packed : {p : Progress} → added ≡ Ok p → (packed : Result ℕ Fault) (out₀ out : List ℕ)
       → PackedIn (pack_draft (draft_of p numbers rows lines)) packed out₀ out → PackedIn (pack_of text) packed out₀ out
   unfolding pack_of
   text-packed {p} is packed out₀ out made = go (read_text text) (rw is at grown)
     where
-      go : (told : Told Draft) → Grown told (To p) numbers rows lines → PackedIn (told >>= pack_draft) packed out₀ out
+      go : (told : Told Draft) → Grown told (Ok p) numbers rows lines → PackedIn (told >>= pack_draft) packed out₀ out
       go (good d) g = rw (← g.0) made
       go (bad f) g = absurd g

@@ -4,22 +4,21 @@ ghost use Rattle.pack.specs.Pack.{read_pack};
 ghost use Rattle.table.specs.Reading.{pack_draft, pack_of, pack_input};
 ghost use Rattle.table.specs.Progress.{Room, DraftFits, PackedIn, draft_of, packed_as, pack_most};
 
-use pack::PackAnswer;
-use table::{Added, Fault, Packed, Progress, TEXT_MOST};
+use table::{Fault, Progress, TEXT_MOST};
 
 // What the pack's check says: how many bytes it has, or its refusal with the line of its block.
-fn check_made(pack: &[u8], lines: &[usize], first: usize, r: usize) -> Packed
+fn check_made(pack: &[u8], lines: &[usize], first: usize, r: usize) -> Result<usize, Fault>
     requires { 0 < r }
     ensures { result ≡ packed_as (read_pack pack.now) (length pack.now) lines.now first r }
 {
     let check = pack_code::check_pack(pack);
     let answer = check.answer;
     match answer {
-        PackAnswer::Accepted(_) => Packed::Bytes(pack.len()),
-        PackAnswer::Refused(e) => {
+        Ok(_) => Ok(pack.len()),
+        Err(e) => {
             let number = refusal_code::number(e);
             let place = draft_code::line_at(lines, refusal_code::place(e), first, r);
-            Packed::Bad(Fault { number, place })
+            Err(Fault { number, place })
         }
     }
 }
@@ -31,7 +30,7 @@ fn pack_draft(
     rows: &[u8],
     lines: &[usize],
     out: &mut [u8],
-) -> Packed
+) -> Result<usize, Fault>
     requires draft_fits { DraftFits p numbers.now rows.now lines.now }
     requires pack_most_in_bounds { pack_most ≤ length out.old }
     ensures { PackedIn (pack_draft (draft_of p numbers.now rows.now lines.now)) result
@@ -53,16 +52,13 @@ fn make_pack(
     rows: &mut [u8],
     lines: &mut [usize],
     out: &mut [u8],
-) -> Packed
+) -> Result<usize, Fault>
     requires room { Room numbers.old rows.old lines.old }
     requires pack_most_in_bounds { pack_most ≤ length out.old }
     ensures { PackedIn (pack_of text.now) result out.old out.new }
 {
-    let added = table_reader::read_text(text, numbers, rows, lines);
-    match added {
-        Added::Bad(e) => Packed::Bad(e),
-        Added::To(p) => pack_draft(p, numbers, rows, lines, out),
-    }
+    let p = table_reader::read_text(text, numbers, rows, lines)?;
+    pack_draft(p, numbers, rows, lines, out)
 }
 
 // The pack of a program's input, at the start of `out`; too long a text is refused.
@@ -72,13 +68,13 @@ pub(crate) fn pack_input(
     rows: &mut [u8],
     lines: &mut [usize],
     out: &mut [u8],
-) -> Packed
+) -> Result<usize, Fault>
     requires room { Room numbers.old rows.old lines.old }
     requires pack_most_in_bounds { pack_most ≤ length out.old }
     ensures { PackedIn (pack_input input.now) result out.old out.new }
 {
     if TEXT_MOST <= input.len() {
-        return Packed::Bad(Fault {
+        return Err(Fault {
             number: 24,
             place: TEXT_MOST,
         });

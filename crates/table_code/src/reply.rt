@@ -7,8 +7,7 @@ ghost use Rattle.table.specs.Reading.{pack_reply};
 ghost use Rattle.table.specs.Progress.{pack_most};
 
 use refusal::Refusal;
-use report::Reply;
-use table::{PACK_MOST, Packed};
+use table::PACK_MOST;
 
 // Puts the pack of the input, or the line of its refusal, at the start of `out`, and answers its length.
 fn pack_into(input: &[u8], out: &mut [u8]) -> usize
@@ -21,21 +20,21 @@ fn pack_into(input: &[u8], out: &mut [u8]) -> usize
     let mut pack = [0u8; PACK_MOST];
     let packed = crate::maker::pack_input(input, &mut numbers, &mut rows, &mut lines, &mut pack);
     match packed {
-        Packed::Bytes(length) => {
+        Ok(length) => {
             rows_writer::copy_bytes(out, &pack[0..length]);
             length
         }
-        Packed::Bad(e) => draft_code::fault_line(out, e),
+        Err(e) => draft_code::fault_line(out, e),
     }
 }
 
 // Puts what `pack` writes for the input at the start of `out`, and answers its length; a slice of fewer than 21,760 bytes is refused.
-pub fn pack_reply(input: &[u8], out: &mut [u8]) -> Reply
+pub fn pack_reply(input: &[u8], out: &mut [u8]) -> Result<usize, Refusal>
     ensures { ReplyDone (into pack_most (pack_reply input.now) (length out.old)) out.old out.new result }
 {
     if out.len() < PACK_MOST {
-        return Reply::Refused(Refusal::ShortOutput(PACK_MOST));
+        return Err(Refusal::ShortOutput(PACK_MOST));
     }
     let length = pack_into(input, out);
-    Reply::Written(length)
+    Ok(length)
 }

@@ -4,7 +4,7 @@ use native.Mathlib.Omega.{arith}
 use mathlib.Core.Path.{◌≡◌, refl}
 use mathlib.Core.Bool.{Bool, true, false, cond}
 use lib.Dec.{leb}
-use borrow.Author.Tests.{leb-true, le-leb, lt-leb, ne_eqb}
+use borrow.Author.Tests.{leb-true}
 use Rattle.lists.proofs.Tests.{T_true, true-T, and_right}
 use Rattle.table.specs.Lines.{is_digit, is_blank}
 use Rattle.table.specs.Progress.{digit_of}
@@ -37,17 +37,3 @@ module _ (byte : ℕ) where
       go true y e h = absurd (omega arith)
       go false true e h = absurd (let m = digit-most e in omega arith)
       go false false e h = (refl, refl)
-
-  -- a byte that is none of the blanks
-  module _ (not-return : byte ≡ 13 → ⊥) (not-tab : byte ≡ 9 → ⊥) (not-space : byte ≡ 32 → ⊥) where
-    no-blank : is_blank byte ≡ false
-    no-blank = rw (ne_eqb byte 32 not-space, ne_eqb byte 9 not-tab, ne_eqb byte 13 not-return)
-
-    pub digit_low : byte < 48 → 11 ≡ digit_of byte
-    digit_low h = rw (no-blank, lt-leb 48 byte h) refl
-
-    pub digit-high : 57 < byte → 11 ≡ digit_of byte
-    digit-high h = rw (no-blank, le-leb 48 byte (omega arith), lt-leb byte 57 h) refl
-
-    pub digit-within : 48 ≤ byte → byte ≤ 57 → byte - 48 ≡ digit_of byte
-    digit-within low high = rw (no-blank, le-leb 48 byte low, le-leb byte 57 high) refl

@@ -1,3 +1,4 @@
 pub mod Looking
 pub mod DigitOf
 pub mod Turns
+pub mod Splitting

@@ -1,5 +1,6 @@
 -- The turns of the loop that reads a line's numbers. Assumes nothing.
 use Prim.Native.Nat.{ℕ, zero, suc, ◌+◌, ◌*◌, ◌-◌, ◌≤◌, ◌<◌}
+use Rattle.std.specs.Prelude.{Some, None}
 use native.Mathlib.Omega.{arith}
 use native.Mathlib.Numerals.{add-one}
 use native.Mathlib.Nat.{le_refl}
@@ -10,7 +11,6 @@ use mathlib.Core.Option.{some}
 use lib.ListN.{length, take, drop, get_or, set, drop_of_length-le, length-set}
 use lib.Seq.{drop-cons, length-take-le, take-suc-set}
 use borrow.Author.Tests.{lt-ltb, le-ltb}
-use Rattle.table.specs.declared.LineRead.TheVariants.{Numbers, Unreadable}
 use Rattle.table.specs.Lines.{is_digit, is_blank, ended, read_numbers}
 use Rattle.table.specs.Progress.{digit_of, NumbersIn}
 use Rattle.table.proofs.Numbers.{tens, ended_some}
@@ -71,12 +71,12 @@ module _ {line slice : List ℕ} {i digits value found : ℕ} (turn : NumberTurn
     unfolding read_numbers
     at-end = turn.same ∙ rw (drop_of_length-le line last)
 
-    pub turn-none : digits ≡ 0 → NumbersIn (read_numbers line 0 0 []) (Numbers found) slice
+    pub turn-none : digits ≡ 0 → NumbersIn (read_numbers line 0 0 []) (Some found) slice
     turn-none z =
         let e : read_numbers line 0 0 [] ≡ some (take found slice) = at-end ∙ rw z in
         rw (e, held) (refl, refl, turn.most)
 
-    pub turn_last : 0 < digits → NumbersIn (read_numbers line 0 0 []) (Numbers (found + 1)) (set slice found value)
+    pub turn_last : 0 < digits → NumbersIn (read_numbers line 0 0 []) (Some (found + 1)) (set slice found value)
     turn_last h =
         let whole = kept h in
         let len : length (take (found + 1) (set slice found value)) ≡ found + 1 =
@@ -92,11 +92,11 @@ module _ {line slice : List ℕ} {i digits value found : ℕ} (turn : NumberTurn
       what : (is_blank (get_or line i 0) ≡ false) × (is_digit (get_or line i 0) ≡ true) × (digit_of (get_or line i 0) ≡ get_or line i 0 - 48)
       what = a-digit (get_or line i 0) (rw is at small)
 
-      pub turn-full : 8 ≤ digits → NumbersIn (read_numbers line 0 0 []) Unreadable slice
+      pub turn-full : 8 ≤ digits → NumbersIn (read_numbers line 0 0 []) None slice
       unfolding read_numbers
       turn-full h = rw (turn.same, drop-cons line i 0 more, what.0, what.1, le-ltb digits 8 h) refl
 
-      pub turn_many : digits < 8 → 255 ≤ found → NumbersIn (read_numbers line 0 0 []) Unreadable slice
+      pub turn_many : digits < 8 → 255 ≤ found → NumbersIn (read_numbers line 0 0 []) None slice
       unfolding read_numbers
       turn_many few h =
           rw (turn.same, drop-cons line i 0 more, what.0, what.1, lt-ltb digits 8 few, held, le-ltb found 255 h) refl
@@ -115,7 +115,7 @@ module _ {line slice : List ℕ} {i digits value found : ℕ} (turn : NumberTurn
                 ∙ rw (drop-cons line i 0 more, what.0, what.1, lt-ltb digits 8 few, held, lt-ltb found 255 room, add-one i, add-one digits, is, what.2);
           }
 
-    pub turn-other : 10 < digit → NumbersIn (read_numbers line 0 0 []) Unreadable slice
+    pub turn-other : 10 < digit → NumbersIn (read_numbers line 0 0 []) None slice
     unfolding read_numbers
     turn-other h =
         let what = another (get_or line i 0) (rw is at h) in

@@ -6,12 +6,5 @@ ghost use Rattle.table.specs.Lines.{before};
 pub fn first_of(bytes: &[u8], byte: u8) -> usize
     ensures { result ≡ length (before byte bytes.now) }
 {
-    let mut i: usize = 0;
-    while i < bytes.len() {
-        if bytes[i] == byte {
-            return i;
-        }
-        i += 1;
-    }
-    i
+    bytes.iter().position(|b| *b == byte).unwrap_or(bytes.len())
 }

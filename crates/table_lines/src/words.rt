@@ -8,20 +8,11 @@ use table::Word;
 pub fn starts_with(line: &[u8], word: &[u8]) -> bool
     ensures { result ≡ begins word.now line.now }
 {
-    let mut i: usize = 0;
-    while i < word.len() {
-        if line.len() <= i {
-            return false;
-        }
-        if line[i] != word[i] {
-            return false;
-        }
-        i += 1;
-    }
-    true
+    line.starts_with(word)
 }
 
 // The word that the line begins with.
+#[tactic(auto, unfolding(table::specs::Lines::word_of, table::specs::Lines::begins))]
 pub fn word_of(line: &[u8]) -> Word
     ensures { result ≡ word_of line.now }
 {

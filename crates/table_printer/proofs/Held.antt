@@ -1,5 +1,6 @@
 -- The text of a pack, from what its check hands on. Assumes nothing.
 use Prim.Native.Nat.{ℕ, ◌+◌, ◌*◌, ◌-◌, ◌≤◌}
+use Rattle.std.specs.Prelude.{Ok, Err}
 use native.Mathlib.Omega.{arith}
 use mathlib.Core.Path.{◌≡◌, refl, sym, ◌∙◌, ap}
 use mathlib.Core.List.{List, [], ◌∷◌, ◌++◌, map, flatten, append-nil}
@@ -21,7 +22,6 @@ use Rattle.lists.proofs.Alls.{length-flatten}
 use Rattle.pack.specs.Pack.{Pack, GoodPack, read_pack, check_pack}
 use Rattle.pack.specs.Answers.{pack_head, pack_checked}
 use Rattle.pack.specs.declared.PackHead.{PackHead}
-use Rattle.pack.specs.declared.PackAnswer.TheVariants.{Accepted, Refused}
 use Rattle.pack.specs.declared.PackCheck.{PackCheck}
 use Rattle.pack.proofs.Accepted.{read-of-pack, blocks-stand}
 use Rattle.report.specs.Programs.{refused_line, or_refused_line}
@@ -71,7 +71,7 @@ record AcceptedFile (input : List ℕ) (check : PackCheck) (head : PackHead) : T
   pub heads-are : check.layers ≡ five_heads (heads_of file.content.layers)
   pub dark-is : check.dark ≡ dark_of file.content.dark
 
-the-file : (input : List ℕ) {check : PackCheck} → check ≡ pack_checked (read_pack input) → {head : PackHead} → check.answer ≡ Accepted head
+the-file : (input : List ℕ) {check : PackCheck} → check ≡ pack_checked (read_pack input) → {head : PackHead} → check.answer ≡ Ok head
     → AcceptedFile input check head
 the-file input {check} is {head} a = go (read_pack input) refl is
   where
@@ -133,7 +133,7 @@ module _ (input : List ℕ) (file : Located Pack) (read : read_pack input ≡ ac
         }
 
 -- the same of the code's values
-module _ (input : List ℕ) {check : PackCheck} (is : check ≡ pack_checked (read_pack input)) {head : PackHead} (a : check.answer ≡ Accepted head) where
+module _ (input : List ℕ) {check : PackCheck} (is : check ≡ pack_checked (read_pack input)) {head : PackHead} (a : check.answer ≡ Ok head) where
   pub first-inside : head.first ≤ length input
   first-inside = let f = the-file input is a in blocks-inside input f.file f.read f.head-is
 
@@ -150,7 +150,7 @@ module _ (input : List ℕ) {check : PackCheck} (is : check ≡ pack_checked (re
       rw f.read (rw same at r)
 
 -- a refusal's line
-pub refused-text : (input : List ℕ) {check : PackCheck} → check ≡ pack_checked (read_pack input) → {why : Refusal} → check.answer ≡ Refused why
+pub refused-text : (input : List ℕ) {check : PackCheck} → check ≡ pack_checked (read_pack input) → {why : Refusal} → check.answer ≡ Err why
     → {before after : List ℕ} {next : ℕ} → Replied (refused_line why) next before after → Replied (table_reply input) next before after
 unfolding table_reply check_pack
 refused-text input {check} is {why} a {before} {after} {next} r = go (read_pack input) is

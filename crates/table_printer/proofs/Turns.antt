@@ -24,32 +24,33 @@ layers_text r heads s = flatten (map layer_text (layers_at r heads s))
 -- Before each layer: those from x on, whose blocks begin at byte `from`, are left.
 pub record LayersTurn (heads : List LayerHead) (rows : List ℕ) (r : ℕ) (before : List ℕ) (at : ℕ) (after : List ℕ) (place from x : ℕ) : Type 0 where
   pub within : x ≤ r
-  pub inside : from + sizes (drop x (take r heads)) * r ≤ length rows
-  pub stored : Stored (layers_text r (take r heads) rows) before at (layers_text r (drop x (take r heads)) (drop from rows)) after place
+  pub inside : from + sizes (drop x heads) * r ≤ length rows
+  pub stored : Stored (layers_text r heads rows) before at (layers_text r (drop x heads) (drop from rows)) after place
 
-module _ (heads : List LayerHead) (rows : List ℕ) (r : ℕ) (before : List ℕ) (at : ℕ) (five : length heads ≡ 5) (r-most : r ≤ 5) where
-  heads-length : length (take r heads) ≡ r
-  heads-length = length-take-le r heads (omega arith)
+-- the first r heads
+pub taken : (heads : List LayerHead) (r : ℕ) → length heads ≡ 5 → r ≤ 5 → length (take (r - 0) heads) ≡ r
+taken heads r five most = let h : r - 0 ≤ length heads = omega arith in omega (arith, length-take-le (r - 0) heads h)
 
-  pub layers-none : sizes (take r heads) * r ≤ length rows → LayersTurn heads rows r before at before at 0 0
-  layers-none h = record { within = omega arith; inside = omega arith; stored = stored-none (layers_text r (take r heads) rows) before at }
+module _ (heads : List LayerHead) (rows : List ℕ) (r : ℕ) (before : List ℕ) (at : ℕ) (heads-length : length heads ≡ r) where
+  pub layers-none : sizes heads * r ≤ length rows → LayersTurn heads rows r before at before at 0 0
+  layers-none h = record { within = omega arith; inside = omega arith; stored = stored-none (layers_text r heads rows) before at }
 
   module _ {after : List ℕ} {place from x : ℕ} (turn : LayersTurn heads rows r before at after place from x) where
-    pub layers-all : r ≤ x → Put (layers_text r (take r heads) rows) before at place after
+    pub layers-all : r ≤ x → Put (layers_text r heads rows) before at place after
     unfolding layers_at flatten
     layers-all h =
-        let e : x ≡ length (take r heads) = omega (arith, heads-length, turn.within) in
-        let none : drop x (take r heads) ≡ [] = rw e (drop-length (take r heads)) in
+        let e : x ≡ length heads = omega (arith, turn.within) in
+        let none : drop x heads ≡ [] = rw e (drop-length heads) in
         stored-all (rw none at turn.stored)
 
     module _ (more : x < r) where
       abbrev head : LayerHead
       head = get_or heads x no_head
 
-      heads-next : drop x (take r heads) ≡ head ∷ drop (x + 1) (take r heads)
-      heads-next = rw (add-one x, ← get_or-take r heads x no_head more) (drop-cons (take r heads) x no_head (omega (arith, heads-length)))
+      heads-next : drop x heads ≡ head ∷ drop (x + 1) heads
+      heads-next = rw (add-one x) (drop-cons heads x no_head (omega arith))
 
-      left-size : sizes (drop x (take r heads)) ≡ head.size + sizes (drop (x + 1) (take r heads))
+      left-size : sizes (drop x heads) ≡ head.size + sizes (drop (x + 1) heads)
       unfolding total
       left-size = rw heads-next refl
 
@@ -63,25 +64,25 @@ module _ (heads : List LayerHead) (rows : List ℕ) (r : ℕ) (before : List ℕ
       pub layer-blocks : head.size * r ≤ length (take (length rows - from) (drop from rows))
       layer-blocks = rw (take-drop-rest rows from, length-drop from rows) (omega (arith, layer-inside))
 
-      left-text : layers_text r (drop x (take r heads)) (drop from rows)
-          ≡ text_line Mu (head.bound ∷ []) ++ (row_lines r head.size (drop from rows) ++ layers_text r (drop (x + 1) (take r heads)) (drop (head.size * r) (drop from rows)))
+      left-text : layers_text r (drop x heads) (drop from rows)
+          ≡ text_line Mu (head.bound ∷ []) ++ (row_lines r head.size (drop from rows) ++ layers_text r (drop (x + 1) heads) (drop (head.size * r) (drop from rows)))
       unfolding layers_at flatten
       left-text =
           rw heads-next
           (append_assoc (text_line Mu (head.bound ∷ [])) (row_lines r head.size (drop from rows))
-          (layers_text r (drop (x + 1) (take r heads)) (drop (head.size * r) (drop from rows))))
+          (layers_text r (drop (x + 1) heads) (drop (head.size * r) (drop from rows))))
 
-      stored-left : Stored (layers_text r (take r heads) rows) before at
-          (text_line Mu (head.bound ∷ []) ++ (row_lines r head.size (drop from rows) ++ layers_text r (drop (x + 1) (take r heads)) (drop (head.size * r) (drop from rows)))) after place
+      stored-left : Stored (layers_text r heads rows) before at
+          (text_line Mu (head.bound ∷ []) ++ (row_lines r head.size (drop from rows) ++ layers_text r (drop (x + 1) heads) (drop (head.size * r) (drop from rows)))) after place
       stored-left = rw left-text at turn.stored
 
-      module _ (room : at + length (layers_text r (take r heads) rows) + 128 ≤ length before) where
+      module _ (room : at + length (layers_text r heads rows) + 128 ≤ length before) where
         pub mu-room : place + 128 ≤ length after
         mu-room = omega (arith, turn.stored.ends, turn.stored.same_length)
 
         module _ {next : ℕ} {middle : List ℕ} (put : Put (text_line Mu (head.bound ∷ [])) after place next middle) where
-          stored-mu : Stored (layers_text r (take r heads) rows) before at
-              (row_lines r head.size (drop from rows) ++ layers_text r (drop (x + 1) (take r heads)) (drop (head.size * r) (drop from rows))) middle next
+          stored-mu : Stored (layers_text r heads rows) before at
+              (row_lines r head.size (drop from rows) ++ layers_text r (drop (x + 1) heads) (drop (head.size * r) (drop from rows))) middle next
           stored-mu = stored_next stored-left put
 
           pub blocks-room : next + length (row_lines r head.size (take (length rows - from) (drop from rows))) + 128 ≤ length middle
@@ -92,7 +93,7 @@ module _ (heads : List LayerHead) (rows : List ℕ) (r : ℕ) (before : List ℕ
                 arith,
                 e,
                 stored-mu.same_length,
-                length-append (row_lines r head.size (drop from rows)) (layers_text r (drop (x + 1) (take r heads)) (drop (head.size * r) (drop from rows))),
+                length-append (row_lines r head.size (drop from rows)) (layers_text r (drop (x + 1) heads) (drop (head.size * r) (drop from rows))),
               ))
 
           pub layers-next : {last : ℕ} {after' : List ℕ} → Put (row_lines r head.size (take (length rows - from) (drop from rows))) middle next last after'

@@ -22,16 +22,13 @@ pub(crate) fn put_layers(
 {
     let mut place = at;
     let mut from: usize = 0;
-    let mut x: usize = 0;
-    while x < r {
-        let head = heads[x];
+    for head in &heads[0..r] {
         let mu = head.bound;
         let m = head.size;
         let numbers = [mu];
         let next = line_printer::put_line(out, place, b"mu", &numbers);
         place = line_printer::put_rows(out, next, &rows[from..], m, r);
         from += m * r;
-        x += 1;
     }
     place
 }

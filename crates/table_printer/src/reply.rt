@@ -6,9 +6,8 @@ ghost use Rattle.replies.specs.Replying.{into};
 ghost use Rattle.table.specs.Printing.{table_reply, table_most, PackHeld, held_text};
 
 use layers::{Dark, LayerHead};
-use pack::{PackAnswer, PackHead};
+use pack::PackHead;
 use refusal::Refusal;
-use report::Reply;
 use table::TABLE_MOST;
 
 // Puts the text of a pack at the start of `out`, and answers its length.
@@ -41,8 +40,8 @@ fn table_line(input: &[u8], out: &mut [u8]) -> usize
     let heads = check.layers;
     let dark = check.dark;
     match answer {
-        PackAnswer::Refused(e) => report_lines::refused_line(out, e),
-        PackAnswer::Accepted(head) => {
+        Err(e) => report_lines::refused_line(out, e),
+        Ok(head) => {
             let first = head.first;
             put_table(out, &input[first..], head, heads, dark)
         }
@@ -51,12 +50,12 @@ fn table_line(input: &[u8], out: &mut [u8]) -> usize
 
 // Puts what `table` prints for the input at the start of `out`, and answers its length; a slice of fewer than 90,112 bytes is
 // refused.
-pub fn table_reply(input: &[u8], out: &mut [u8]) -> Reply
+pub fn table_reply(input: &[u8], out: &mut [u8]) -> Result<usize, Refusal>
     ensures { ReplyDone (into table_most (table_reply input.now) (length out.old)) out.old out.new result }
 {
     if out.len() < TABLE_MOST {
-        return Reply::Refused(Refusal::ShortOutput(TABLE_MOST));
+        return Err(Refusal::ShortOutput(TABLE_MOST));
     }
     let length = table_line(input, out);
-    Reply::Written(length)
+    Ok(length)
 }

@@ -1,13 +1,12 @@
 -- A line's numbers, read into the slice after the head's, of a table and of bare rows alike. Assumes nothing.
 use Prim.Native.Nat.{ℕ, ◌-◌, ◌≤◌}
+use Rattle.std.specs.Prelude.{Option as Given, Some, None}
 use native.Mathlib.Omega.{arith}
 use mathlib.Core.Path.{◌≡◌, refl}
 use mathlib.Core.List.{List, ◌++◌}
 use mathlib.Core.Option.{Option, none, some}
 use lib.ListN.{length, take, drop, length-drop}
 use lib.Seq.{length-take-le, take_at, drop_at}
-use Rattle.table.specs.declared.LineRead.{LineRead}
-use Rattle.table.specs.declared.LineRead.TheVariants.{Numbers, Unreadable}
 use Rattle.table.specs.declared.Progress.{Progress}
 use Rattle.table.specs.Lines.{before}
 use Rattle.table.specs.Progress.{Kept, Finds, NumbersIn, draft_of, found_in}
@@ -35,7 +34,7 @@ module _ (p : Progress) (numbers part after : List ℕ) (room : p.count ≤ leng
   pub draft-same : (rows lines : List ℕ) → draft_of p after rows lines ≡ draft_of p numbers rows lines
   draft-same rows lines = rw head-same refl
 
-  module _ (got : Option (List ℕ)) {read : LineRead} (found-in : NumbersIn got read part) {found : ℕ} (e : read ≡ Numbers found) where
+  module _ (got : Option (List ℕ)) {read : Given ℕ} (found-in : NumbersIn got read part) {found : ℕ} (e : read ≡ Some found) where
     found-few : found ≤ 255
     found-few = go got found-in
       where
@@ -57,7 +56,7 @@ module _ (p : Progress) (numbers part after : List ℕ) (room : p.count ≤ leng
             let are : found_in p found after ≡ l = rw (part_same, same) h.1 in
             rw are refl
 
-pub none_found : (got : Option (List ℕ)) (part : List ℕ) {read : LineRead} → NumbersIn got read part → read ≡ Unreadable → got ≡ none
+pub none_found : (got : Option (List ℕ)) (part : List ℕ) {read : Given ℕ} → NumbersIn got read part → read ≡ None → got ≡ none
 none_found none part h e = refl
 none_found (some l) part h e = absurd (let s = h.0 in let z : ◌≡◌ {A = ℕ} 0 1 = cc in omega arith)
 

@@ -4,7 +4,7 @@ ghost use Rattle.table.specs.Lines.{letters};
 ghost use Rattle.table.specs.Reading.{add_numbers, add_content, add_line};
 ghost use Rattle.table.specs.Progress.{Kept, Finds, Room, Grown, draft_of, found_in};
 
-use table::{Added, Fault, LineRead, Progress, Word};
+use table::{Fault, Progress, Word};
 
 // How many letters a word has.
 fn word_length(word: Word) -> usize
@@ -33,7 +33,7 @@ fn add_numbers(
     rows: &mut [u8],
     lines: &mut [usize],
     found: Found,
-) -> Added
+) -> Result<Progress, Fault>
     requires finds { Finds p found.count numbers.old }
     requires room { Room numbers.old rows.old lines.old }
     ensures { Grown
@@ -48,7 +48,7 @@ fn add_numbers(
         Word::Mu => table_steps::add_layer(p, numbers, count, line),
         Word::Plain => {
             if count == 0 {
-                return Added::To(p);
+                return Ok(p);
             }
             table_blocks::add_block(p, numbers, rows, lines, count, line)
         }
@@ -63,7 +63,7 @@ fn add_content(
     rows: &mut [u8],
     lines: &mut [usize],
     line: usize,
-) -> Added
+) -> Result<Progress, Fault>
     requires kept { Kept p (take p.count numbers.old) }
     requires room { Room numbers.old rows.old lines.old }
     ensures { Grown
@@ -74,8 +74,8 @@ fn add_content(
     let start = word_length(word);
     let count = p.count;
     let read = table_lines::read_numbers(&content[start..], &mut numbers[count..]);
-    let LineRead::Numbers(size) = read else {
-        return Added::Bad(Fault {
+    let Some(size) = read else {
+        return Err(Fault {
             number: 23,
             place: line,
         });
@@ -92,7 +92,7 @@ pub(crate) fn add_line(
     rows: &mut [u8],
     lines: &mut [usize],
     line: usize,
-) -> Added
+) -> Result<Progress, Fault>
     requires kept { Kept p (take p.count numbers.old) }
     requires room { Room numbers.old rows.old lines.old }
     ensures { Grown

@@ -2,10 +2,15 @@
 ghost use Rattle.table.specs.Reading.{read_text};
 ghost use Rattle.table.specs.Progress.{Room, Grown};
 
-use table::{Added, Fault, Progress};
+use table::{Fault, Progress};
 
 // Reads the text into the three slices: the numbers of the pack's head, its blocks, and the line of each block.
-pub fn read_text(text: &[u8], numbers: &mut [usize], rows: &mut [u8], lines: &mut [usize]) -> Added
+pub fn read_text(
+    text: &[u8],
+    numbers: &mut [usize],
+    rows: &mut [u8],
+    lines: &mut [usize],
+) -> Result<Progress, Fault>
     requires { Room numbers.old rows.old lines.old }
     ensures { Grown (read_text text.now) result numbers.new rows.new lines.new }
 {
@@ -16,11 +21,10 @@ pub fn read_text(text: &[u8], numbers: &mut [usize], rows: &mut [u8], lines: &mu
     let mut layers: usize = 0;
     let mut blocks: usize = 0;
     let mut place: usize = 0;
-    let mut at: usize = 0;
+    // Counted by hand, since a fault after the loop tells how many lines there are.
     let mut line: usize = 0;
-    while at <= text.len() {
+    for bytes in text.split(|b| *b == b'\n') {
         line += 1;
-        let end = at + table_lines::first_of(&text[at..], b'\n');
         let p = Progress {
             n,
             r,
@@ -29,8 +33,8 @@ pub fn read_text(text: &[u8], numbers: &mut [usize], rows: &mut [u8], lines: &mu
             blocks,
             place,
         };
-        let added = crate::lines::add_line(p, &text[at..end], numbers, rows, lines, line);
-        let Added::To(next) = added else {
+        let added = crate::lines::add_line(p, bytes, numbers, rows, lines, line);
+        let Ok(next) = added else {
             return added;
         };
         n = next.n;
@@ -39,21 +43,20 @@ pub fn read_text(text: &[u8], numbers: &mut [usize], rows: &mut [u8], lines: &mu
         layers = next.layers;
         blocks = next.blocks;
         place = next.place;
-        at = end + 1;
     }
     if r == 0 {
-        return Added::Bad(Fault {
+        return Err(Fault {
             number: 1,
             place: line,
         });
     }
     if layers != r {
-        return Added::Bad(Fault {
+        return Err(Fault {
             number: 1,
             place: line,
         });
     }
-    Added::To(Progress {
+    Ok(Progress {
         n,
         r,
         count,

@@ -1,5 +1,6 @@
 -- What the lines of the head add, where their numbers stand after those of the head so far. Assumes nothing.
 use Prim.Native.Nat.{ℕ, zero, suc, ◌+◌, ◌-◌, ◌≤◌, ◌<◌}
+use Rattle.std.specs.Prelude.{Ok, Err}
 use native.Mathlib.Omega.{arith}
 use native.Mathlib.Numerals.{add-one}
 use mathlib.Core.Path.{◌≡◌, refl, ◌∙◌}
@@ -13,7 +14,6 @@ use Rattle.lists.proofs.Alls.{all_append, all-imp}
 use Rattle.number.specs.Numbers.{largest_number}
 use Rattle.packing.specs.Rows.{is_in_order}
 use Rattle.table.specs.declared.Progress.{Progress}
-use Rattle.table.specs.declared.Added.TheVariants.{To, Bad}
 use Rattle.table.specs.Told.{unreadable, outside}
 use Rattle.table.specs.Reading.{head_taken, add_table, add_out, add_layer}
 use Rattle.table.specs.Progress.{Finds, Adds, found_in}
@@ -52,11 +52,11 @@ module _ (p : Progress) (found : ℕ) (numbers : List ℕ) (finds : Finds p foun
 
   module _ (line : ℕ) where
     -- a second `table`
-    pub table-again : (p.r ≡ 0 → ⊥) → Adds (add_table line (found_in p found numbers)) p numbers (Bad (unreadable line)) numbers
+    pub table-again : (p.r ≡ 0 → ⊥) → Adds (add_table line (found_in p found numbers)) p numbers (Err (unreadable line)) numbers
     unfolding add_table
     table-again h rows lines = rw (ne_eqb p.r 0 h) refl
 
-    pub table-count : p.r ≡ 0 → (found ≡ 2 → ⊥) → Adds (add_table line (found_in p found numbers)) p numbers (Bad (unreadable line)) numbers
+    pub table-count : p.r ≡ 0 → (found ≡ 2 → ⊥) → Adds (add_table line (found_in p found numbers)) p numbers (Err (unreadable line)) numbers
     unfolding add_table
     table-count z h rows lines = rw (eq-eqb p.r 0 z, found-length, ne_eqb found 2 h) refl
 
@@ -65,13 +65,13 @@ module _ (p : Progress) (found : ℕ) (numbers : List ℕ) (finds : Finds p foun
       pair = rw two (take-two numbers p.count (omega (arith, room_after)))
 
       pub table-outside : head_taken (get_or numbers p.count 0) (get_or numbers (p.count + 1) 0) ≡ false
-          → Adds (add_table line (found_in p found numbers)) p numbers (Bad (outside line)) numbers
+          → Adds (add_table line (found_in p found numbers)) p numbers (Err (outside line)) numbers
       unfolding add_table
       table-outside h rows lines = rw (pair, eq-eqb p.r 0 z, h) refl
 
       pub table_taken : {n r : ℕ} → n ≡ get_or numbers p.count 0 → r ≡ get_or numbers (p.count + 1) 0 → head_taken n r ≡ true
           → Adds (add_table line (found_in p found numbers)) p numbers
-          (To (record { n = n; r = r; count = p.count + 3; layers = p.layers; blocks = p.blocks; place = p.place })) (set numbers (p.count + 2) 0)
+          (Ok (record { n = n; r = r; count = p.count + 3; layers = p.layers; blocks = p.blocks; place = p.place })) (set numbers (p.count + 2) 0)
       unfolding add_table
       table_taken {n} {r} n-is r-is h rows lines =
           let limits = taken-limits n r h in
@@ -100,7 +100,7 @@ module _ (p : Progress) (found : ℕ) (numbers : List ℕ) (finds : Finds p foun
           )
 
     -- `out` before `table`, or after another `out` or the first layer
-    pub out-early : (p.count ≡ 4 → ⊥) → Adds (add_out line (found_in p found numbers)) p numbers (Bad (unreadable line)) numbers
+    pub out-early : (p.count ≡ 4 → ⊥) → Adds (add_out line (found_in p found numbers)) p numbers (Err (unreadable line)) numbers
     unfolding add_out
     out-early h rows lines = rw (head-length, ne_eqb p.count 4 h) refl
 
@@ -110,13 +110,13 @@ module _ (p : Progress) (found : ℕ) (numbers : List ℕ) (finds : Finds p foun
       part = let e : p.count + found - p.count ≡ found = omega arith in rw e
 
       pub out-outside : is_in_order p.n (take (p.count + found - p.count) (drop p.count numbers)) ≡ false
-          → Adds (add_out line (found_in p found numbers)) p numbers (Bad (outside line)) numbers
+          → Adds (add_out line (found_in p found numbers)) p numbers (Err (outside line)) numbers
       unfolding add_out
       out-outside h rows lines = rw (head-length, eq-eqb p.count 4 four, rw part at h) refl
 
       pub out-taken : is_in_order p.n (take (p.count + found - p.count) (drop p.count numbers)) ≡ true
           → Adds (add_out line (found_in p found numbers)) p numbers
-          (To (record { n = p.n; r = p.r; count = p.count + found; layers = p.layers; blocks = p.blocks; place = p.place })) (set numbers 3 found)
+          (Ok (record { n = p.n; r = p.r; count = p.count + found; layers = p.layers; blocks = p.blocks; place = p.place })) (set numbers 3 found)
       unfolding add_out
       out-taken h rows lines =
           let k = finds.kept in
@@ -152,12 +152,12 @@ module _ (p : Progress) (found : ℕ) (numbers : List ℕ) (finds : Finds p foun
               go (suc r) e = let b = finds.kept.begun (omega arith) in omega arith
 
     -- a `mu` too many, or too early
-    pub layer-late : p.r ≤ p.layers → Adds (add_layer line (found_in p found numbers)) p numbers (Bad (unreadable line)) numbers
+    pub layer-late : p.r ≤ p.layers → Adds (add_layer line (found_in p found numbers)) p numbers (Err (unreadable line)) numbers
     unfolding add_layer
     layer-late h rows lines = rw (le-ltb p.layers p.r h) refl
 
     module _ (due : p.layers < p.r) where
-      pub layer-count : (found ≡ 1 → ⊥) → Adds (add_layer line (found_in p found numbers)) p numbers (Bad (unreadable line)) numbers
+      pub layer-count : (found ≡ 1 → ⊥) → Adds (add_layer line (found_in p found numbers)) p numbers (Err (unreadable line)) numbers
       unfolding add_layer
       layer-count h rows lines = rw (lt-ltb p.layers p.r due, found-length, ne_eqb found 1 h) refl
 
@@ -165,19 +165,19 @@ module _ (p : Progress) (found : ℕ) (numbers : List ℕ) (finds : Finds p foun
         single : found_in p found numbers ≡ get_or numbers p.count 0 ∷ []
         single = rw one (take-one numbers p.count (omega (arith, room_after)))
 
-        pub layer-low : get_or numbers p.count 0 < 1 → Adds (add_layer line (found_in p found numbers)) p numbers (Bad (outside line)) numbers
+        pub layer-low : get_or numbers p.count 0 < 1 → Adds (add_layer line (found_in p found numbers)) p numbers (Err (outside line)) numbers
         unfolding add_layer
         layer-low h rows lines = rw (single, lt-ltb p.layers p.r due, lt-leb 1 (get_or numbers p.count 0) h) refl
 
         module _ (low : 1 ≤ get_or numbers p.count 0) where
-          pub layer-high : 4_096 < get_or numbers p.count 0 → Adds (add_layer line (found_in p found numbers)) p numbers (Bad (outside line)) numbers
+          pub layer-high : 4_096 < get_or numbers p.count 0 → Adds (add_layer line (found_in p found numbers)) p numbers (Err (outside line)) numbers
           unfolding add_layer
           layer-high h rows lines =
               rw (single, lt-ltb p.layers p.r due, le-leb 1 (get_or numbers p.count 0) low, lt-leb (get_or numbers p.count 0) 4_096 h) refl
 
           pub layer-taken : get_or numbers p.count 0 ≤ 4_096
               → Adds (add_layer line (found_in p found numbers)) p numbers
-              (To (record { n = p.n; r = p.r; count = p.count + 2; layers = p.layers + 1; blocks = p.blocks; place = p.place }))
+              (Ok (record { n = p.n; r = p.r; count = p.count + 2; layers = p.layers + 1; blocks = p.blocks; place = p.place }))
               (set numbers (p.count + 1) 0)
           unfolding add_layer
           layer-taken high rows lines =

@@ -52,27 +52,6 @@ order_below n numbers e =
     (every-all (λ v. ltb v n) numbers (and_right (ascending 0 numbers) (every (λ v. ltb v n) numbers) (T_true e)))
 
 module _ (n r : ℕ) where
-  pub taken-few : n < 2 → false ≡ head_taken n r
-  unfolding head_taken
-  taken-few h = rw (lt-leb 2 n h) refl
-
-  pub taken-many : 2 ≤ n → 255 < n → false ≡ head_taken n r
-  unfolding head_taken
-  taken-many a h = rw (le-leb 2 n a, lt-leb n 255 h) refl
-
-  module _ (a : 2 ≤ n) (b : n ≤ 255) where
-    pub taken-one : r < 2 → false ≡ head_taken n r
-    unfolding head_taken
-    taken-one h = rw (le-leb 2 n a, le-leb n 255 b, lt-leb 2 r h) refl
-
-    pub taken-six : 2 ≤ r → 5 < r → false ≡ head_taken n r
-    unfolding head_taken
-    taken-six c h = rw (le-leb 2 n a, le-leb n 255 b, le-leb 2 r c, lt-leb r 5 h) refl
-
-    pub taken-last : 2 ≤ r → r ≤ 5 → leb r n ≡ head_taken n r
-    unfolding head_taken
-    taken-last c d = rw (le-leb 2 n a, le-leb n 255 b, le-leb 2 r c, le-leb r 5 d) refl
-
   pub taken-limits : head_taken n r ≡ true → BaseLimits n r
   unfolding head_taken
   taken-limits e =

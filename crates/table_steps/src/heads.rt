@@ -3,29 +3,24 @@ ghost use Rattle.std.specs.Prelude.{◌≡◌};
 ghost use Rattle.table.specs.Reading.{head_taken, add_table, add_out, add_layer};
 ghost use Rattle.table.specs.Progress.{Finds, Adds, found_in};
 
-use table::{Added, Fault, Progress};
+use number::Reading;
+use table::{Fault, Progress};
 
 // Whether n and r are within their limits.
+#[tactic(auto, unfolding(table::specs::Reading::head_taken))]
 fn head_taken(n: usize, r: usize) -> bool
     ensures { result ≡ head_taken n r }
 {
-    if n < 2 {
-        return false;
-    }
-    if 255 < n {
-        return false;
-    }
-    if r < 2 {
-        return false;
-    }
-    if 5 < r {
-        return false;
-    }
-    r <= n
+    2 <= n && n <= 255 && 2 <= r && r <= 5 && r <= n
 }
 
 // `table n r`.
-pub fn add_table(p: Progress, numbers: &mut [usize], found: usize, line: usize) -> Added
+pub fn add_table(
+    p: Progress,
+    numbers: &mut [usize],
+    found: usize,
+    line: usize,
+) -> Result<Progress, Fault>
     requires { Finds p found numbers.old }
     ensures { Adds (add_table line (found_in p found numbers.old)) p numbers.old result numbers.new }
 {
@@ -35,13 +30,13 @@ pub fn add_table(p: Progress, numbers: &mut [usize], found: usize, line: usize) 
     let place = p.place;
     let before = p.r;
     if before != 0 {
-        return Added::Bad(Fault {
+        return Err(Fault {
             number: 23,
             place: line,
         });
     }
     if found != 2 {
-        return Added::Bad(Fault {
+        return Err(Fault {
             number: 23,
             place: line,
         });
@@ -49,13 +44,13 @@ pub fn add_table(p: Progress, numbers: &mut [usize], found: usize, line: usize) 
     let n = numbers[count];
     let r = numbers[count + 1];
     if !head_taken(n, r) {
-        return Added::Bad(Fault {
+        return Err(Fault {
             number: 4,
             place: line,
         });
     }
     numbers[count + 2] = 0;
-    Added::To(Progress {
+    Ok(Progress {
         n,
         r,
         count: count + 3,
@@ -66,7 +61,12 @@ pub fn add_table(p: Progress, numbers: &mut [usize], found: usize, line: usize) 
 }
 
 // `out` and the nodes out of service.
-pub fn add_out(p: Progress, numbers: &mut [usize], found: usize, line: usize) -> Added
+pub fn add_out(
+    p: Progress,
+    numbers: &mut [usize],
+    found: usize,
+    line: usize,
+) -> Result<Progress, Fault>
     requires { Finds p found numbers.old }
     ensures { Adds (add_out line (found_in p found numbers.old)) p numbers.old result numbers.new }
 {
@@ -77,20 +77,20 @@ pub fn add_out(p: Progress, numbers: &mut [usize], found: usize, line: usize) ->
     let blocks = p.blocks;
     let place = p.place;
     if count != 4 {
-        return Added::Bad(Fault {
+        return Err(Fault {
             number: 23,
             place: line,
         });
     }
     let end = count + found;
     if !crate::nodes::in_order(&numbers[count..end], n) {
-        return Added::Bad(Fault {
+        return Err(Fault {
             number: 4,
             place: line,
         });
     }
     numbers[3] = found;
-    Added::To(Progress {
+    Ok(Progress {
         n,
         r,
         count: end,
@@ -101,7 +101,12 @@ pub fn add_out(p: Progress, numbers: &mut [usize], found: usize, line: usize) ->
 }
 
 // `mu` and a layer's mu.
-pub fn add_layer(p: Progress, numbers: &mut [usize], found: usize, line: usize) -> Added
+pub fn add_layer(
+    p: Progress,
+    numbers: &mut [usize],
+    found: usize,
+    line: usize,
+) -> Result<Progress, Fault>
     requires { Finds p found numbers.old }
     ensures { Adds (add_layer line (found_in p found numbers.old)) p numbers.old result numbers.new }
 {
@@ -112,32 +117,32 @@ pub fn add_layer(p: Progress, numbers: &mut [usize], found: usize, line: usize) 
     let blocks = p.blocks;
     let place = p.place;
     if r <= layers {
-        return Added::Bad(Fault {
+        return Err(Fault {
             number: 23,
             place: line,
         });
     }
     if found != 1 {
-        return Added::Bad(Fault {
+        return Err(Fault {
             number: 23,
             place: line,
         });
     }
     let mu = numbers[count];
     if mu < 1 {
-        return Added::Bad(Fault {
+        return Err(Fault {
             number: 4,
             place: line,
         });
     }
     if 4_096 < mu {
-        return Added::Bad(Fault {
+        return Err(Fault {
             number: 4,
             place: line,
         });
     }
     numbers[count + 1] = 0;
-    Added::To(Progress {
+    Ok(Progress {
         n,
         r,
         count: count + 2,

@@ -7,9 +7,7 @@ pub fn in_order(numbers: &[usize], n: usize) -> bool
     ensures { result ≡ is_in_order n numbers.now }
 {
     let mut least: usize = 0;
-    let mut i: usize = 0;
-    while i < numbers.len() {
-        let v = numbers[i];
+    for &v in numbers {
         if v < least {
             return false;
         }
@@ -17,7 +15,6 @@ pub fn in_order(numbers: &[usize], n: usize) -> bool
             return false;
         }
         least = v + 1;
-        i += 1;
     }
     true
 }

@@ -1,5 +1,6 @@
 -- The turns of the loop that reads a decimal number: each way a turn ends, and that nothing wraps. Assumes nothing.
 use Prim.Native.Nat.{ℕ, zero, suc, ◌+◌, ◌*◌, ◌-◌, ◌≤◌, ◌<◌}
+use Rattle.std.specs.Prelude.{Ok, Err}
 use native.Mathlib.Omega.{arith}
 use native.Mathlib.Numerals.{add-one}
 use native.Mathlib.Nat.{le_refl}
@@ -14,7 +15,6 @@ use Rattle.lists.proofs.Tests.{T_true, and_right}
 use borrow.Author.Tests.{le-leb, lt-leb, lt-ltb, le-ltb, ne_eqb}
 use Rattle.refusal.specs.declared.Refusal.TheVariants.{Malformed}
 use Rattle.number.specs.Answers.{number_read}
-use Rattle.number.specs.declared.NumberRead.TheVariants.{Value, Refused}
 use Rattle.text.specs.Decimal.{is_digit, end_digits, read_digits, read_decimal}
 use Rattle.text.specs.Digits.{digit_at}
 
@@ -85,18 +85,18 @@ module _ (text : List ℕ) (at : ℕ) where
 
 -- the end of an argument, by the byte there
 module _ (text : List ℕ) (start at value : ℕ) where
-  pub end_empty : at ≤ start → Refused (Malformed start) ≡ number_read (end_digits text start at value)
+  pub end_empty : at ≤ start → Err (Malformed start) ≡ number_read (end_digits text start at value)
   end_empty h = rw (le-ltb start at h)
 
   module _ (some : start < at) where
-    pub end-past : length text ≤ at → Refused (Malformed start) ≡ number_read (end_digits text start at value)
+    pub end-past : length text ≤ at → Err (Malformed start) ≡ number_read (end_digits text start at value)
     end-past h = rw (lt-ltb start at some, le-ltb at (length text) h)
 
     module _ (inside : at < length text) where
-      pub end-other : 0 < get_or text at 0 → Refused (Malformed start) ≡ number_read (end_digits text start at value)
+      pub end-other : 0 < get_or text at 0 → Err (Malformed start) ≡ number_read (end_digits text start at value)
       end-other h = rw (lt-ltb start at some, lt-ltb at (length text) inside, ne_eqb (get_or text at 0) 0 (λ e. omega arith))
 
-      pub end-number : get_or text at 0 ≤ 0 → Value (record { value = value; next = at + 1 })
+      pub end-number : get_or text at 0 ≤ 0 → Ok (record { value = value; next = at + 1 })
           ≡ number_read (end_digits text start at value)
       end-number h =
           let zero-byte : get_or text at 0 ≡ 0 = omega arith in

@@ -4,7 +4,7 @@ ghost use Rattle.number.specs.Answers.{number_read};
 ghost use Rattle.text.specs.Decimal.{read_decimal, end_digits};
 ghost use Rattle.text.specs.Digits.{digit_at};
 
-use number::{NumberRead, Reading};
+use number::Reading;
 use refusal::Refusal;
 
 // The digit at a place, 10 where there is none.
@@ -25,40 +25,38 @@ fn digit_at(text: &[u8], at: usize) -> usize
 }
 
 // The number of an argument whose digits end at `at`.
-fn end_digits(text: &[u8], start: usize, at: usize, value: usize) -> NumberRead
+fn end_digits(text: &[u8], start: usize, at: usize, value: usize) -> Result<Reading, Refusal>
     ensures { result ≡ number_read (end_digits text.now start at value) }
 {
     if at <= start {
-        return NumberRead::Refused(Refusal::Malformed(start));
+        return Err(Refusal::Malformed(start));
     }
     if text.len() <= at {
-        return NumberRead::Refused(Refusal::Malformed(start));
+        return Err(Refusal::Malformed(start));
     }
     let byte = text[at] as usize;
     if 0 < byte {
-        return NumberRead::Refused(Refusal::Malformed(start));
+        return Err(Refusal::Malformed(start));
     }
-    NumberRead::Value(Reading {
+    Ok(Reading {
         value,
         next: at + 1,
     })
 }
 
 // The number of the argument that starts at `at`, one to nine digits and a byte 0, with the place after it.
-pub fn read_decimal(text: &[u8], at: usize) -> NumberRead
+pub fn read_decimal(text: &[u8], at: usize) -> Result<Reading, Refusal>
     ensures { result ≡ number_read (read_decimal text.now at) }
 {
-    let mut digits: usize = 0;
     let mut place = at;
     let mut value: usize = 0;
-    while digits < 9 {
+    for _digits in 0..9usize {
         let digit = digit_at(text, place);
         if 9 < digit {
             return end_digits(text, at, place, value);
         }
         value = value * 10 + digit;
         place += 1;
-        digits += 1;
     }
     end_digits(text, at, place, value)
 }

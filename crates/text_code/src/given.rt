@@ -3,11 +3,12 @@ ghost use Rattle.std.specs.Prelude.{◌≤◌, ◌≡◌};
 ghost use Rattle.number.specs.Answers.{number_read};
 ghost use Rattle.text.specs.Numbers.{read_given, end_given, given};
 
-use number::NumberRead;
+use number::Reading;
+use refusal::Refusal;
 use text::{Given, GivenEnd};
 
 // One number: an argument, or of the input where there is none.
-fn read_one(arguments: &[u8], input: &[u8], at: usize) -> NumberRead
+fn read_one(arguments: &[u8], input: &[u8], at: usize) -> Result<Reading, Refusal>
     ensures { result ≡ number_read (read_given arguments.now input.now at) }
 {
     if arguments.len() == 0 {
@@ -37,9 +38,8 @@ pub fn read_given(arguments: &[u8], input: &[u8], count: usize) -> Given
 {
     let mut values = [0usize; 8];
     let mut at: usize = 0;
-    let mut i: usize = 0;
-    while i < count {
-        let NumberRead::Value(n) = read_one(arguments, input, at) else {
+    for i in 0..count {
+        let Ok(n) = read_one(arguments, input, at) else {
             return Given {
                 end: GivenEnd::Unread(i),
                 values,
@@ -47,7 +47,6 @@ pub fn read_given(arguments: &[u8], input: &[u8], count: usize) -> Given
         };
         values[i] = n.value;
         at = n.next;
-        i += 1;
     }
     let end = end_given(arguments, at);
     Given { end, values }

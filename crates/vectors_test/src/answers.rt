@@ -1,19 +1,15 @@
 // Answers as numbers: 0 and the values that document 01 gives a result, or a refusal's number and place.
 ghost use Rattle.std.specs.Prelude.{length};
 
-use commit::{AskAnswer, AskResult};
-use join::Joined;
+use commit::AskResult;
 use layers::LayerHead;
-use number::{NumberRead, NumberWritten};
-use pack::{PackAnswer, PackCheck, PackHead};
-use packing::RowFound;
-use placement::{PlacementAnswer, PlacementCheck, PlacementHead};
-use planner::{PlanAnswer, PlanResult};
-use refusal::{Refusal, Writing};
+use number::Reading;
+use pack::{PackCheck, PackHead};
+use packing::Record;
+use placement::{PlacementCheck, PlacementHead};
+use planner::{PlanResult, PlannedFile};
+use refusal::Refusal;
 use replay::Replayed;
-use report::Reply;
-use rounds::RoundsAnswer;
-use worst::WorstCase;
 
 // What no call answers.
 pub(crate) fn unknown() -> [usize; 19] {
@@ -30,17 +26,17 @@ pub(crate) fn refused(e: Refusal) -> [usize; 19] {
     numbers(refusal_code::number(e), refusal_code::place(e), 0)
 }
 
-pub(crate) fn number_read(read: NumberRead) -> [usize; 19] {
+pub(crate) fn number_read(read: Result<Reading, Refusal>) -> [usize; 19] {
     match read {
-        NumberRead::Value(number) => numbers(0, number.value, number.next),
-        NumberRead::Refused(e) => refused(e),
+        Ok(number) => numbers(0, number.value, number.next),
+        Err(e) => refused(e),
     }
 }
 
-pub(crate) fn number_written(written: NumberWritten) -> [usize; 19] {
+pub(crate) fn number_written(written: Result<usize, Refusal>) -> [usize; 19] {
     match written {
-        NumberWritten::Written(n) => numbers(0, n, 0),
-        NumberWritten::Refused(e) => refused(e),
+        Ok(n) => numbers(0, n, 0),
+        Err(e) => refused(e),
     }
 }
 
@@ -88,8 +84,8 @@ pub(crate) fn pack_checked(check: PackCheck) -> [usize; 19] {
     let answer = check.answer;
     let heads = check.layers;
     match answer {
-        PackAnswer::Accepted(head) => pack_head(head, heads),
-        PackAnswer::Refused(e) => refused(e),
+        Ok(head) => pack_head(head, heads),
+        Err(e) => refused(e),
     }
 }
 
@@ -98,8 +94,8 @@ pub(crate) fn placement_checked(check: PlacementCheck) -> [usize; 19] {
     let answer = check.answer;
     let heads = check.layers;
     match answer {
-        PlacementAnswer::Accepted(head) => with_layers(head, heads),
-        PlacementAnswer::Refused(e) => refused(e),
+        Ok(head) => with_layers(head, heads),
+        Err(e) => refused(e),
     }
 }
 
@@ -115,8 +111,8 @@ pub(crate) fn plan_result(res: PlanResult) -> [usize; 19] {
     let answer = res.answer;
     let counts = res.counts;
     match answer {
-        PlanAnswer::Planned { length, figure } => planned(length, figure, counts),
-        PlanAnswer::Refused(e) => refused(e),
+        Ok(PlannedFile { length, figure }) => planned(length, figure, counts),
+        Err(e) => refused(e),
     }
 }
 
@@ -133,54 +129,54 @@ pub(crate) fn ask_result(res: AskResult) -> [usize; 19] {
     let counts = res.counts;
     let copies = res.copies;
     match answer {
-        AskAnswer::Offered(figure) => offered(figure, counts, copies),
-        AskAnswer::Refused(e) => refused(e),
+        Ok(figure) => offered(figure, counts, copies),
+        Err(e) => refused(e),
     }
 }
 
 // 1 and the row's number, or 0.
-pub(crate) fn row_found(found: RowFound) -> [usize; 19] {
+pub(crate) fn row_found(found: Option<Record>) -> [usize; 19] {
     match found {
-        RowFound::At(row) => numbers(0, 1, row.0),
-        RowFound::Nothing => numbers(0, 0, 0),
+        Some(row) => numbers(0, 1, row.0),
+        None => numbers(0, 0, 0),
     }
 }
 
-pub(crate) fn replied(reply: Reply) -> [usize; 19] {
+pub(crate) fn replied(reply: Result<usize, Refusal>) -> [usize; 19] {
     match reply {
-        Reply::Written(n) => numbers(0, n, 0),
-        Reply::Refused(e) => refused(e),
+        Ok(n) => numbers(0, n, 0),
+        Err(e) => refused(e),
     }
 }
 
 // How many bytes the joined pack has.
-pub(crate) fn joined(joined: Joined) -> [usize; 19] {
+pub(crate) fn joined(joined: Result<usize, Refusal>) -> [usize; 19] {
     match joined {
-        Joined::Written(n) => numbers(0, n, 0),
-        Joined::Refused(e) => refused(e),
+        Ok(n) => numbers(0, n, 0),
+        Err(e) => refused(e),
     }
 }
 
 // How many bytes or entries were written.
-pub(crate) fn wrote(writing: Writing) -> [usize; 19] {
+pub(crate) fn wrote(writing: Result<usize, Refusal>) -> [usize; 19] {
     match writing {
-        Writing::Written(n) => numbers(0, n, 0),
-        Writing::Refused(e) => refused(e),
+        Ok(n) => numbers(0, n, 0),
+        Err(e) => refused(e),
     }
 }
 
-pub(crate) fn worst(answer: WorstCase) -> [usize; 19] {
+pub(crate) fn worst(answer: Result<usize, Refusal>) -> [usize; 19] {
     match answer {
-        WorstCase::Fewest(n) => numbers(0, n, 0),
-        WorstCase::Refused(e) => refused(e),
+        Ok(n) => numbers(0, n, 0),
+        Err(e) => refused(e),
     }
 }
 
 // How many records are usable.
-pub(crate) fn played(answer: RoundsAnswer) -> [usize; 19] {
+pub(crate) fn played(answer: Result<usize, Refusal>) -> [usize; 19] {
     match answer {
-        RoundsAnswer::Usable(n) => numbers(0, n, 0),
-        RoundsAnswer::Refused(e) => refused(e),
+        Ok(n) => numbers(0, n, 0),
+        Err(e) => refused(e),
     }
 }
 

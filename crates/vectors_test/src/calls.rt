@@ -5,7 +5,6 @@ use crate::answers;
 use crate::answers::unknown;
 use crate::script::{Given, Part, byte_of, part_of};
 use operators::SharedOrder;
-use packing::RowFound;
 use placement::FeederTable;
 
 // The packing test of layer x on c rows of r nodes, where the rows stand in the bytes and are in order.
@@ -17,7 +16,7 @@ fn crowded_rows(rows: &[u8], c: usize, r: usize, x: usize, bound: usize) -> [usi
         return unknown();
     }
     let bad = rows_code::first_bad(rows, c, r, 256, 0);
-    let RowFound::Nothing = bad else {
+    let None = bad else {
         return unknown();
     };
     answers::row_found(crowding_code::first_crowded(rows, c, r, x, bound))
@@ -39,16 +38,8 @@ fn crowded(rows: &[u8], c: usize, r: usize, x: usize, bound: usize) -> [usize; 1
 
 // Puts the first nodes into the output, one byte each, as far as it reaches.
 fn put_nodes(count: usize, nodes: &[usize], out: &mut [u8]) {
-    let mut i: usize = 0;
-    while i < count {
-        if nodes.len() <= i {
-            return;
-        }
-        if out.len() <= i {
-            return;
-        }
-        out[i] = byte_of(nodes[i]);
-        i += 1;
+    for (byte, node) in out.iter_mut().zip(nodes).take(count) {
+        *byte = byte_of(*node);
     }
 }
 
@@ -71,12 +62,8 @@ fn pack(input: &[u8], out: &mut [u8]) -> [usize; 19] {
 
 // Puts the bytes into the output, as far as it reaches.
 fn put_bytes(bytes: &[u8], out: &mut [u8]) {
-    let room = out.len();
-    if bytes.len() < room {
-        rows_writer::copy_bytes(out, bytes);
-        return;
-    }
-    rows_writer::copy_bytes(out, &bytes[0..room]);
+    let room = out.len().min(bytes.len());
+    out[..room].copy_from_slice(&bytes[..room]);
 }
 
 // Puts how many feeders there are and that of each node into the output, as far as it reaches.
@@ -155,17 +142,8 @@ fn replied(call: usize, input: &[u8], out: &mut [u8]) -> [usize; 19] {
 
 // Puts the entries into the output, two bytes each, lowest first, as far as it reaches.
 fn spread(entries: &[u16], out: &mut [u8]) {
-    let mut i: usize = 0;
-    let mut at: usize = 0;
-    while i < entries.len() {
-        if out.len() - at < 2 {
-            return;
-        }
-        let v = entries[i];
-        out[at] = (v % 256) as u8;
-        out[at + 1] = (v / 256 % 256) as u8;
-        i += 1;
-        at += 2;
+    for (pair, entry) in out.chunks_exact_mut(2).zip(entries) {
+        pair.copy_from_slice(&entry.to_le_bytes());
     }
 }
 

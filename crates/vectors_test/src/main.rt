@@ -57,7 +57,7 @@ fn run_call(
     written: &[u8],
 ) -> bool {
     let answer = called(head.call, given, input, written);
-    compare::same(answer, script::next_numbers(reader, head.expected))
+    answer == script::next_numbers(reader, head.expected)
 }
 
 // Reads bytes, changes one or takes another part of them, as the head says; answers the part that is the input from now on.
@@ -122,14 +122,12 @@ fn run(
     counts: &mut [usize],
 ) {
     let mut part = Part { from: 0, to: 0 };
-    let mut turns: usize = 0;
-    while turns < 1_000_000 {
+    for _turn in 0..1_000_000 {
         let head = script::next_head(reader);
         if head.call == script::END {
             return;
         }
         part = turn(rt, reader, head, part, bytes, written, counts);
-        turns += 1;
     }
 }
 

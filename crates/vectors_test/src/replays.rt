@@ -6,18 +6,11 @@ use crate::script::{Given, Part, part_of};
 use packing::Node;
 use replay::Event;
 
-// The number in four bytes, lowest first.
-fn time_of(a: u8, b: u8, c: u8, d: u8) -> u32 {
-    let low = a as u32 + 256 * (b as u32);
-    let high = c as u32 + 256 * (d as u32);
-    low + 65_536 * high
-}
-
 // The event in the six bytes from `at` on.
 fn event_of(log: &[u8], at: usize) -> Event
     requires { at + 5 < length log.now }
 {
-    let time = time_of(log[at], log[at + 1], log[at + 2], log[at + 3]);
+    let time = u32::from_le_bytes([log[at], log[at + 1], log[at + 2], log[at + 3]]);
     let node = Node(log[at + 4]);
     let down = log[at + 5] > 0;
     Event { time, node, down }
@@ -34,12 +27,8 @@ fn events_of(log: &[u8], count: usize) -> [Event; 2_048]
         down: false,
     };
     let mut events = [none; 2_048];
-    let mut i: usize = 0;
-    let mut at: usize = 0;
-    while i < count {
-        events[i] = event_of(log, at);
-        i += 1;
-        at += 6;
+    for (i, event) in events.iter_mut().enumerate().take(count) {
+        *event = event_of(log, i * 6);
     }
     events
 }

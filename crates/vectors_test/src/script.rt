@@ -54,19 +54,15 @@ fn fill(reader: &mut impl Read, part: &mut [u8]) -> bool {
     n == part.len()
 }
 
-fn count_in(byte: u8) -> usize {
-    byte as usize
-}
-
 // The next head.
 pub(crate) fn next_head(reader: &mut impl Read) -> Head {
     let mut four = [0u8; 4];
     if fill(reader, &mut four) {
         return Head {
-            call: count_in(four[0]),
-            kind: count_in(four[1]),
-            given: count_in(four[2]),
-            expected: count_in(four[3]),
+            call: usize::from(four[0]),
+            kind: usize::from(four[1]),
+            given: usize::from(four[2]),
+            expected: usize::from(four[3]),
         };
     }
     Head {
@@ -78,14 +74,11 @@ pub(crate) fn next_head(reader: &mut impl Read) -> Head {
 }
 
 // The number in four bytes, lowest first; the largest stands for the largest of 64 bits.
-fn of_four(a: u8, b: u8, c: u8, d: u8) -> usize {
-    let low = a as usize + 256 * (b as usize);
-    let high = c as usize + 256 * (d as usize);
-    let n = low + 65_536 * high;
-    if n == 4_294_967_295 {
-        return 18_446_744_073_709_551_615;
+fn of_four(four: [u8; 4]) -> usize {
+    match u32::from_le_bytes(four) {
+        u32::MAX => usize::MAX,
+        n => n as usize,
     }
-    n
 }
 
 // The first `count` numbers in the bytes, 0 after them.
@@ -94,12 +87,9 @@ fn numbers_in(bytes: &[u8], count: usize) -> [usize; 19]
     ensures { 19 ≡ length result }
 {
     let mut numbers = [0usize; 19];
-    let mut i: usize = 0;
-    let mut at: usize = 0;
-    while i < count {
-        numbers[i] = of_four(bytes[at], bytes[at + 1], bytes[at + 2], bytes[at + 3]);
-        i += 1;
-        at += 4;
+    for (i, number) in numbers.iter_mut().enumerate().take(count) {
+        let at = 4 * i;
+        *number = of_four([bytes[at], bytes[at + 1], bytes[at + 2], bytes[at + 3]]);
     }
     numbers
 }
@@ -155,21 +145,10 @@ pub(crate) fn change(bytes: &mut [u8], at: usize, v: usize) {
 
 // The first `n` bytes; none where there are fewer.
 pub(crate) fn start_of(bytes: &[u8], n: usize) -> &[u8] {
-    if n <= bytes.len() {
-        &bytes[0..n]
-    } else {
-        &bytes[0..0]
-    }
+    bytes.get(..n).unwrap_or(&[])
 }
 
 // That part of the bytes; an empty one where there is no such part.
 pub(crate) fn part_of(bytes: &[u8], part: Part) -> &[u8] {
-    let from = part.from;
-    let to = part.to;
-    let bytes = start_of(bytes, to);
-    if from <= bytes.len() {
-        &bytes[from..]
-    } else {
-        &bytes[0..0]
-    }
+    start_of(bytes, part.to).get(part.from..).unwrap_or(&[])
 }

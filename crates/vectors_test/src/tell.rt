@@ -17,10 +17,7 @@ fn place_of(kind: usize, call: usize) -> usize {
 
 // The count at `i`.
 fn at(counts: &[usize], i: usize) -> usize {
-    if i < counts.len() {
-        return counts[i];
-    }
-    0
+    counts.get(i).copied().unwrap_or(0)
 }
 
 // One more of the count at `i`, which is answered; a count stops at a million.
@@ -57,24 +54,20 @@ pub(crate) fn count(rt: &impl Print, counts: &mut [usize], call: usize, kind: us
 
 // The line of a kind: each call's count.
 fn tell_kind(rt: &impl Print, kind: usize, counts: &[usize]) {
-    let mut call: usize = 4;
     put(rt, "\n", kind);
-    while call < CALLS {
+    for call in 4..CALLS {
         put(rt, " ", at(counts, place_of(kind, call)));
-        call += 1;
     }
 }
 
 // The names of the calls, and a line for each kind; the last is that of vectors that do not agree.
 pub(crate) fn tell_kinds(rt: &impl Print, counts: &[usize]) {
-    let mut kind: usize = 0;
     say(
         rt,
         "\nkind read_number read_within check_pack check_placement first_crowded write_number plan row_walk check_reply plan_reply curve join plan_operator ask commit worst_case rounds replay page certify",
     );
-    while kind <= WRONG {
+    for kind in 0..=WRONG {
         tell_kind(rt, kind, counts);
-        kind += 1;
     }
     say(rt, "\n");
 }

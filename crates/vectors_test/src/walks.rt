@@ -1,13 +1,14 @@
 // The row walk to its end and past it: every row is put into the output, one after the other.
 use crate::answers;
 use crate::compare::byte_at;
-use walk::{Cursor, WalkOpened};
+use refusal::Refusal;
+use walk::Cursor;
 use walk_code::Walk;
 
 // What opening a walk gives: the answer, and where the walk stands.
 #[derive(Clone, Copy)]
 struct Opening {
-    answer: WalkOpened,
+    answer: Result<Cursor, Refusal>,
     place: Cursor,
 }
 
@@ -79,9 +80,8 @@ fn put(out: &mut [u8], at: usize, row: [u8; 5], length: usize) -> usize {
 // Walks from the first place to the end.
 fn walk_rows(bytes: &[u8], first: Cursor, out: &mut [u8]) -> WalkEnd {
     let mut place = first;
-    let mut rows: usize = 0;
     let mut to: usize = 0;
-    while rows < 5_000 {
+    for rows in 0..5_000 {
         let step = step_from(bytes, place);
         let row = step.row;
         let length = step.length;
@@ -94,10 +94,9 @@ fn walk_rows(bytes: &[u8], first: Cursor, out: &mut [u8]) -> WalkEnd {
         }
         to = put(out, to, row, length);
         place = step.next;
-        rows += 1;
     }
     WalkEnd {
-        rows,
+        rows: 5_000,
         bytes: to,
         place,
     }
@@ -140,9 +139,7 @@ pub(crate) fn walked(bytes: &[u8], out: &mut [u8]) -> [usize; 19] {
     let first = opening.place;
     let end = walk_rows(bytes, first, out);
     match answer {
-        WalkOpened::Opened(answered) => places(bytes, first, end, answered),
-        WalkOpened::Refused(e) => {
-            answers::numbers(refusal_code::number(e), refusal_code::place(e), end.rows)
-        }
+        Ok(answered) => places(bytes, first, end, answered),
+        Err(e) => { answers::numbers(refusal_code::number(e), refusal_code::place(e), end.rows) }
     }
 }

@@ -1,5 +1,6 @@
 -- The walk over document 01's placement of nine records, and beside a refusal, by computation. Assumes nothing.
 use Prim.Native.Nat.{ℕ}
+use Rattle.std.specs.Prelude.{Err}
 use mathlib.Core.Path.{◌≡◌, refl, ap}
 use mathlib.Core.Bool.{false}
 use mathlib.Core.List.{List, [], ◌∷◌, flatten}
@@ -8,7 +9,6 @@ use Rattle.refusal.specs.Checked.{accepted, map_accepted}
 use Rattle.placement.specs.SevenCabinets.{placement_file, seven_placement}
 use Rattle.placement.proofs.Worked.{placement-located}
 use Rattle.walk.specs.declared.Cursor.{Cursor}
-use Rattle.walk.specs.declared.WalkOpened.TheVariants.{Refused}
 use Rattle.walk.specs.RowWalk.{first_row, open_walk, has_row, step_row, step_walk, opened_place}
 
 -- the walk's place with so many rows left, nine rows of three bytes ending at byte 38
@@ -32,5 +32,5 @@ walks =
     (ap (map_accepted first_row) placement-located, refl, refl, refl, refl, refl, refl, refl, refl, refl)
 
 -- beside a refusal no row is left, whatever the bytes
-pub refused-ends : (bytes : List ℕ) (e : Refusal) → has_row bytes (opened_place (Refused e)) ≡ false
+pub refused-ends : (bytes : List ℕ) (e : Refusal) → has_row bytes (opened_place (Err e)) ≡ false
 refused-ends bytes e = refl

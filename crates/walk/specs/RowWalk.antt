@@ -1,13 +1,12 @@
 -- Document 01, "Row walk and programs": the row walk. Assumes nothing.
-use Rattle.std.specs.Prelude.{ℕ, zero, suc, ◌+◌, ◌-◌, ◌≡◌, Bool, cond, ◌&&◌, List, [], ◌∷◌, length, take, drop, leb, ltb}
+use Rattle.std.specs.Prelude.{ℕ, zero, suc, ◌+◌, ◌-◌, ◌≡◌, Bool, cond, ◌&&◌, List, [], ◌∷◌, length, take, drop, leb, ltb, Result, Ok, Err}
 use Rattle.std.specs.Borrow.{Bor}
 use Rattle.refusal.specs.Refusals.{Outcome, result, refusal_outcome}
 use Rattle.refusal.specs.Checked.{Checked, accepted, refused, map_accepted}
 use Rattle.layers.specs.Layers.{Located}
 use Rattle.placement.specs.Placement.{Placement, read_placement}
 use Rattle.walk.specs.declared.Cursor.{Cursor}
-use Rattle.walk.specs.declared.WalkOpened.{WalkOpened}
-use Rattle.walk.specs.declared.WalkOpened.TheVariants.{Opened, Refused}
+use Rattle.refusal.specs.declared.Refusal.{Refusal}
 
 -- the place of the first row, which the check hands on, with all rows left
 abbrev pub first_row : Located Placement → Cursor
@@ -49,16 +48,16 @@ unfoldable pub walk_after : (n : ℕ) → List ℕ → Cursor → Cursor
 walk_after zero bytes walk = walk
 walk_after (suc n) bytes walk = walk_after n bytes (step_walk bytes walk)
 
-abbrev pub walk_opened : Checked Cursor → WalkOpened
-walk_opened (accepted walk) = Opened walk
-walk_opened (refused e) = Refused e
+abbrev pub walk_opened : Checked Cursor → Result Cursor Refusal
+walk_opened (accepted walk) = Ok walk
+walk_opened (refused e) = Err e
 
 -- where the walk is then: beside a refusal it is at its end
-abbrev pub opened_place : WalkOpened → Cursor
-opened_place (Opened walk) = walk
-opened_place (Refused e) = record { at = 0; r = 0; left = 0 }
+abbrev pub opened_place : Result Cursor Refusal → Cursor
+opened_place (Ok walk) = walk
+opened_place (Err e) = record { at = 0; r = 0; left = 0 }
 
 -- an opened walk's values are the first row's place, r and b
-abbrev pub walk_outcome : WalkOpened → Outcome
-walk_outcome (Opened walk) = result (walk.at ∷ walk.r ∷ walk.left ∷ [])
-walk_outcome (Refused e) = refusal_outcome e
+abbrev pub walk_outcome : Result Cursor Refusal → Outcome
+walk_outcome (Ok walk) = result (walk.at ∷ walk.r ∷ walk.left ∷ [])
+walk_outcome (Err e) = refusal_outcome e

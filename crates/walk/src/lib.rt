@@ -10,10 +10,3 @@ pub struct Cursor {
     pub r: usize,
     pub left: usize,
 }
-
-// What opening a walk gives: the place of the first row, or the checker's refusal.
-#[derive(Clone, Copy)]
-pub enum WalkOpened {
-    Opened(Cursor),
-    Refused(Refusal),
-}

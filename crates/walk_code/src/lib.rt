@@ -6,31 +6,28 @@ mod stepping;
 ghost use Rattle.std.specs.Prelude.{◌≡◌};
 ghost use Rattle.walk.specs.RowWalk.{open_walk, walk_opened, opened_place};
 
-use placement::PlacementAnswer;
+use refusal::Refusal;
 pub use stepping::{Stepped, Walk, step};
-use walk::{Cursor, WalkOpened};
+use walk::Cursor;
 
 // What opening a walk gives: the answer, and the walk, which is at its end beside a refusal.
 #[derive(Clone, Copy)]
 pub struct OpenedWalk<'a> {
-    pub answer: WalkOpened,
+    pub answer: Result<Cursor, Refusal>,
     pub walk: Walk<'a>,
 }
 
 // The place of the first row of the placement that `bytes` are, or the checker's refusal.
-pub fn opened(bytes: &[u8]) -> WalkOpened
+pub fn opened(bytes: &[u8]) -> Result<Cursor, Refusal>
     ensures { result ≡ walk_opened (open_walk bytes.now) }
 {
     let checked = placement_code::check_placement(bytes);
-    let answer = checked.answer;
-    match answer {
-        PlacementAnswer::Accepted(head) => WalkOpened::Opened(Cursor {
-            at: head.first,
-            r: head.r,
-            left: head.b,
-        }),
-        PlacementAnswer::Refused(e) => WalkOpened::Refused(e),
-    }
+    let head = checked.answer?;
+    Ok(Cursor {
+        at: head.first,
+        r: head.r,
+        left: head.b,
+    })
 }
 
 // The walk over the placement that `bytes` are, at its first row; or the checker's refusal, and a walk at its end.

@@ -1,5 +1,6 @@
 -- The true worst case from the answer of the placement's check, and what is left in the lent slice. Assumes nothing.
 use Prim.Native.Nat.{ℕ, ◌+◌, ◌-◌, ◌*◌, ◌≤◌, ◌<◌}
+use Rattle.std.specs.Prelude.{Ok, Err}
 use native.Mathlib.Omega.{arith}
 use mathlib.Core.Path.{◌≡◌, refl, sym, ◌∙◌, ap, ap₂, subst}
 use mathlib.Core.Bool.{true, false}
@@ -22,7 +23,6 @@ use Rattle.placement.specs.Answers.{table_of, rows_by_table, placement_head, pla
 use Rattle.placement.specs.declared.Order.{Order}
 use Rattle.placement.specs.declared.PlacementHead.{PlacementHead}
 use Rattle.placement.specs.declared.PlacementCheck.{PlacementCheck}
-use Rattle.placement.specs.declared.PlacementAnswer.TheVariants.{Accepted, Refused as NotAccepted}
 use Rattle.placement.proofs.Answered.{check-refused, check-accepted}
 use Rattle.placement.proofs.Rows.{RowsIn, rows_in}
 use Rattle.placement.proofs.Units.{unit-rows-are}
@@ -30,27 +30,26 @@ use Rattle.placement.proofs.TableRows.{UnitsIn, units-within, bytes_below, plain
 use Rattle.worst.specs.Worst.{few_sets, worst_of, check_worst}
 use Rattle.worst.specs.Answers.{WorstDone}
 use Rattle.worst.specs.Asked.{RowsAsked, FeedersAsked, RowsDone, worst_from}
-use Rattle.worst.specs.declared.WorstCase.TheVariants.{Fewest, Refused}
 
 module _ (shape : Shape) (order : Order) (rows out : List ℕ) where
   -- too many sets are refused, and the output is as it was
   pub many-refused : few_sets shape.n order.k order.b ≡ false
-      → WorstDone (worst_from shape order rows (length out)) out out (Refused TooManySets)
+      → WorstDone (worst_from shape order rows (length out)) out out (Err TooManySets)
   unfolding worst_from
   many-refused e = rw e (record { answer = refl; output-after = refl })
 
   module _ (few : few_sets shape.n order.k order.b ≡ true) where
     -- and so is too short an output
-    pub short-refused : length out < order.k → WorstDone (worst_from shape order rows (length out)) out out (Refused (ShortOutput order.k))
+    pub short-refused : length out < order.k → WorstDone (worst_from shape order rows (length out)) out out (Err (ShortOutput order.k))
     unfolding worst_from
     short-refused short = rw (few, lt-leb order.k (length out) short) (record { answer = refl; output-after = refl })
 
     -- the set stands at the start of any other
     pub set-written : {left : List ℕ} {number : ℕ} → order.k ≤ length out → RowsDone shape order rows out left number
-        → WorstDone (worst_from shape order rows (length out)) out left (Fewest number)
+        → WorstDone (worst_from shape order rows (length out)) out left (Ok number)
     unfolding worst_from
     set-written enough done =
-        rw (few, le-leb order.k (length out) enough) (record { answer = ap Fewest done.number_is; output-after = done.output-after })
+        rw (few, le-leb order.k (length out) enough) (record { answer = ap Ok done.number_is; output-after = done.output-after })
 
 -- the rows of an accepted placement's head
 abbrev pub shape_of : PlacementHead → Shape
@@ -155,7 +154,7 @@ module _ (bytes : List ℕ) (file : Located Placement) (e : read_placement bytes
 
 -- what the answer of the check says
 module _ (bytes : List ℕ) {check : PlacementCheck} (is : check ≡ placement_checked (read_placement bytes)) where
-  module _ {head : PlacementHead} (a : check.answer ≡ Accepted head) where
+  module _ {head : PlacementHead} (a : check.answer ≡ Ok head) where
     pub worst-inside : head.first + head.b * head.r ≤ length bytes
     worst-inside =
         let o = check-accepted (read_placement bytes) is a in
@@ -200,7 +199,7 @@ module _ (bytes : List ℕ) {check : PlacementCheck} (is : check ≡ placement_c
           ∙ sym (λ i. worst_from (record { n = (o.feeders-are i).number; r = (o.head-is i).r }) (order_of (o.head-is i))
           (rows_by_table (o.feeders-are i).each (o.head-is i).r (o.head-is i).b (part_of (o.head-is i) bytes)) output)
 
-  pub worst-of-refused : {why : Refusal} → check.answer ≡ NotAccepted why → (output : ℕ) → check_worst bytes output ≡ refused why
+  pub worst-of-refused : {why : Refusal} → check.answer ≡ Err why → (output : ℕ) → check_worst bytes output ≡ refused why
   unfolding check_worst check_placement
   worst-of-refused a output = rw (check-refused (read_placement bytes) is a)
 

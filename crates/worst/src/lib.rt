@@ -5,13 +5,6 @@
 use packing::Node;
 use refusal::Refusal;
 
-// The fewest usable records over all sets of k nodes, or the refusal.
-#[derive(Clone, Copy)]
-pub enum WorstCase {
-    Fewest(usize),
-    Refused(Refusal),
-}
-
 // What rows are made of: nodes below n, r in each row.
 #[derive(Clone, Copy)]
 pub struct Shape {

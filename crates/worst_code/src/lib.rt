@@ -10,12 +10,12 @@ ghost use Rattle.worst.specs.Answers.{WorstDone};
 ghost use Rattle.placement.specs.Answers.{rows_by_table};
 ghost use Rattle.worst.specs.Asked.{RowsAsked, FeedersAsked, worst_from};
 
-use placement::{FeederTable, Order, PlacementAnswer};
+use placement::{FeederTable, Order, PlacementHead};
 use refusal::Refusal;
-use worst::{Shape, WorstCase};
+use worst::Shape;
 
 // The worst case of rows, where the sets are few enough and the output has room for one.
-fn worst_of_rows(rows: &[u8], shape: Shape, order: Order, out: &mut [u8]) -> WorstCase
+fn worst_of_rows(rows: &[u8], shape: Shape, order: Order, out: &mut [u8]) -> Result<usize, Refusal>
     requires { RowsAsked shape order rows.now }
     ensures { WorstDone (worst_from shape order rows.now (length out.old)) out.old out.new result }
 {
@@ -23,12 +23,12 @@ fn worst_of_rows(rows: &[u8], shape: Shape, order: Order, out: &mut [u8]) -> Wor
     let k = order.k;
     let b = order.b;
     if !limit::few_sets(n, k, b) {
-        return WorstCase::Refused(Refusal::TooManySets);
+        return Err(Refusal::TooManySets);
     }
     if out.len() < k {
-        return WorstCase::Refused(Refusal::ShortOutput(k));
+        return Err(Refusal::ShortOutput(k));
     }
-    WorstCase::Fewest(rows::fewest_usable(rows, shape, order, out))
+    Ok(rows::fewest_usable(rows, shape, order, out))
 }
 
 // The worst case of rows of nodes by the feeders that they hang on.
@@ -38,7 +38,7 @@ fn worst_of_feeders(
     r: usize,
     order: Order,
     out: &mut [u8],
-) -> WorstCase
+) -> Result<usize, Refusal>
     requires { FeedersAsked table r order rows.now }
     ensures { WorstDone (worst_from (record { n = table.number; r = r }) order (rows_by_table table.each r order.b rows.now) (length out.old)) out.old out.new result }
 {
@@ -57,27 +57,25 @@ fn worst_of_feeders(
 // bytes. In kind 6 feeders stand for nodes, and g for n.
 //
 // The number is the least over all failures of k nodes, and at least the figure: `j-worst` in `promises`.
-pub fn worst_case(bytes: &[u8], out: &mut [u8]) -> WorstCase
+pub fn worst_case(bytes: &[u8], out: &mut [u8]) -> Result<usize, Refusal>
     ensures { WorstDone (check_worst bytes.now (length out.old)) out.old out.new result }
 {
     let check = placement_code::check_placement(bytes);
-    let answer = check.answer;
+    let head = check.answer?;
     let table = check.feeders;
-    match answer {
-        PlacementAnswer::Refused(e) => WorstCase::Refused(e),
-        PlacementAnswer::Accepted(head) => {
-            let n = head.n;
-            let r = head.r;
-            let s = head.s;
-            let k = head.k;
-            let b = head.b;
-            let first = head.first;
-            let end = first + b * r;
-            let order = Order { s, k, b };
-            if table.number == 0 {
-                return worst_of_rows(&bytes[first..end], Shape { n, r }, order, out);
-            }
-            worst_of_feeders(&bytes[first..end], table, r, order, out)
-        }
+    let PlacementHead {
+        n,
+        r,
+        s,
+        k,
+        b,
+        first,
+        ..
+    } = head;
+    let end = first + b * r;
+    let order = Order { s, k, b };
+    if table.number == 0 {
+        return worst_of_rows(&bytes[first..end], Shape { n, r }, order, out);
     }
+    worst_of_feeders(&bytes[first..end], table, r, order, out)
 }

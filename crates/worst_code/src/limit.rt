@@ -11,15 +11,13 @@ pub(crate) fn few_sets(n: usize, k: usize, b: usize) -> bool
     requires { (k ≤ n) × (n ≤ 255) × (1 ≤ b) × (b ≤ 4_096) }
     ensures { result ≡ few_sets n k b }
 {
-    let end = minmax::smaller(k, n - k);
+    let end = k.min(n - k);
     let mut sets: usize = 1;
-    let mut i: usize = 0;
-    while i < end {
+    for i in 0..end {
         sets = sets * (n - i) / (i + 1);
         if sets > MOST_SETS {
             return false;
         }
-        i += 1;
     }
     sets * b <= MOST_SETS
 }

@@ -15,9 +15,9 @@ pub fn entries_of(index: &[u16], node: Node) -> Entries
     requires node_bound { get_or index.now node.0 0 ≤ get_or index.now (node.0 + 1) 0 }
     ensures { result ≡ entries_of index.now node.0 }
 {
-    let v = node.0 as usize;
-    let from = index[v] as usize;
-    let to = index[v + 1] as usize;
+    let v = usize::from(node.0);
+    let from = usize::from(index[v]);
+    let to = usize::from(index[v + 1]);
     let count = to - from;
     Entries { from, count }
 }
@@ -27,14 +27,14 @@ fn record_at(index: &[u16], place: usize) -> Record
     requires { place < length index.now }
     ensures { result.0 ≡ get_or index.now place 0 }
 {
-    Record(index[place] as usize)
+    Record(usize::from(index[place]))
 }
 
 // 1 where a record with so many replicas on failed nodes has s of them there with one more, 0 else.
 fn reaches(replicas: u8, s: usize) -> usize
     ensures { result ≡ tally (eqb (replicas + 1) s) 0 }
 {
-    if replicas as usize + 1 == s { 1 } else { 0 }
+    usize::from(usize::from(replicas) + 1 == s)
 }
 
 // A node fails: raises the hits of its records. Of `usable` records those are left whose hits stay below s.
@@ -46,14 +46,12 @@ pub fn raise(s: usize, usable: usize, index: &[u16], entries: Entries, hits: &mu
     let from = entries.from;
     let count = entries.count;
     let mut left = usable;
-    let mut raised: usize = 0;
-    while raised < count {
+    for raised in 0..count {
         let record = record_at(index, from + raised);
         let i = record.0;
         let replicas = hits[i];
         left -= reaches(replicas, s);
         hits[i] = replicas + 1;
-        raised += 1;
     }
     left
 }
@@ -65,12 +63,10 @@ pub fn lower(index: &[u16], entries: Entries, hits: &mut [u8])
 {
     let from = entries.from;
     let count = entries.count;
-    let mut lowered: usize = 0;
-    while lowered < count {
+    for lowered in 0..count {
         let record = record_at(index, from + lowered);
         let i = record.0;
         hits[i] -= 1;
-        lowered += 1;
     }
 }
 
@@ -82,12 +78,10 @@ pub fn lose(s: usize, index: &[u16], entries: Entries, hits: &[u8]) -> usize
     let from = entries.from;
     let count = entries.count;
     let mut lost: usize = 0;
-    let mut seen: usize = 0;
-    while seen < count {
+    for seen in 0..count {
         let record = record_at(index, from + seen);
         let i = record.0;
         lost += reaches(hits[i], s);
-        seen += 1;
     }
     lost
 }

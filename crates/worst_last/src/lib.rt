@@ -4,7 +4,6 @@
 ghost use Rattle.std.specs.Prelude.{◌≡◌, ◌+◌};
 ghost use Rattle.worst.specs.Searches.{LastChosen, Searched, Searching};
 
-use minmax::smaller;
 use packing::Node;
 use worst::Search;
 use worst_hits::{entries_of, lose};
@@ -26,7 +25,7 @@ fn choose_last(search: Search, index: &[u16], hits: &[u8], set: &mut [u8], out: 
     set[chosen] = next.0;
     let entries = entries_of(index, next);
     // The node loses at most all its records: where that leaves enough, they are not looked at.
-    let most = smaller(entries.count, usable);
+    let most = entries.count.min(usable);
     if least <= usable - most {
         return least;
     }
@@ -52,29 +51,14 @@ pub fn last_node(
         set.new out.new result }
 {
     let n = search.n;
-    let k = search.k;
-    let s = search.s;
-    let first = search.next.0;
-    let chosen = search.chosen;
-    let usable = search.usable;
-    let before = search.least;
-    let mut least = before;
-    let mut v = first;
-    loop {
-        let next = Node(v);
+    let mut least = search.least;
+    for v in search.next.0..n as u8 {
         let here = Search {
-            n,
-            k,
-            s,
-            next,
-            chosen,
-            usable,
+            next: Node(v),
             least,
+            ..search
         };
         least = choose_last(here, index, hits, set, out);
-        if n - v as usize == 1 {
-            return least;
-        }
-        v += 1;
     }
+    least
 }

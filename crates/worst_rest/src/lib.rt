@@ -14,22 +14,14 @@ fn raise_rest(search: Search, index: &[u16], hits: &mut [u8], set: &mut [u8]) ->
     requires { RestAsked search index.now hits.old set.old }
     ensures { RestRaised search index.now hits.old set.old hits.new set.new result }
 {
-    let n = search.n;
-    let k = search.k;
-    let s = search.s;
     let first = search.next.0;
     let chosen = search.chosen;
-    let before = search.usable;
-    let least = search.least;
-    let mut usable = before;
-    let mut v = first;
-    let mut place = chosen;
-    while place < k {
+    let mut usable = search.usable;
+    for place in chosen..search.k {
+        let v = first + (place - chosen) as u8;
         let entries = entries_of(index, Node(v));
-        usable = raise(s, usable, index, entries, hits);
+        usable = raise(search.s, usable, index, entries, hits);
         set[place] = v;
-        place += 1;
-        v += 1;
     }
     usable
 }
@@ -40,9 +32,7 @@ fn lower_rest(index: &[u16], hits: &mut [u8], set: &[u8], chosen: usize, k: usiz
     requires chosen_le_k { (chosen ≤ k) × (k ≤ length set.now) × HitsOf index.now (take k set.now) (length hits.old) hits.old }
     ensures { HitsOf index.now (take chosen set.now) (length hits.old) hits.new }
 {
-    let mut place = k;
-    while chosen < place {
-        place -= 1;
+    for place in (chosen..k).rev() {
         let entries = entries_of(index, Node(set[place]));
         lower(index, entries, hits);
     }

@@ -5,7 +5,6 @@ ghost use Rattle.std.specs.Prelude.{◌≡◌, ◌+◌, ◌-◌, ◌≤◌, ◌<
 ghost use Rattle.worst.specs.Records.{Index};
 ghost use Rattle.worst.specs.Searches.{Light, NextChosen, NoLower, Searched, Searching};
 
-use minmax::smaller;
 use packing::Node;
 use worst::Search;
 use worst_hits::{entries_of, lose, lower, raise};
@@ -17,7 +16,7 @@ use worst_two::last_two;
 fn leaves(usable: usize, loss: usize, least: usize) -> bool
     ensures { result ≡ leb least (usable - loss) }
 {
-    least <= usable - smaller(loss, usable)
+    least <= usable - loss.min(usable)
 }
 
 // Whether no set that has the next node can leave fewer than the least so far: each node after it loses at most `most` records. What the
@@ -93,40 +92,30 @@ pub fn search(
     ensures { Searched search index.now hits.old set.old out.old hits.new
         set.new out.new result }
 {
-    let n = search.n;
-    let k = search.k;
-    let s = search.s;
-    let first = search.next.0;
-    let chosen = search.chosen;
-    let usable = search.usable;
-    let before = search.least;
-    let more = k - chosen;
+    let more = search.k - search.chosen;
     if more == 1 {
         return last_node(search, index, hits, set, out);
     }
     if more == 2 {
         return last_two(search, index, hits, set, out);
     }
-    let mut least = before;
-    let mut v = first;
-    loop {
-        let next = Node(v);
+    let last = (search.n - more) as u8;
+    let mut least = search.least;
+    for v in search.next.0..last {
         let here = Search {
-            n,
-            k,
-            s,
-            next,
-            chosen,
-            usable,
+            next: Node(v),
             least,
+            ..search
         };
-        if n - v as usize == more {
-            if keeps(here, most, index, hits) {
-                return least;
-            }
-            return choose_rest(here, index, hits, set, out);
-        }
         least = choose(here, most, index, hits, set, out);
-        v += 1;
     }
+    let rest = Search {
+        next: Node(last),
+        least,
+        ..search
+    };
+    if keeps(rest, most, index, hits) {
+        return least;
+    }
+    choose_rest(rest, index, hits, set, out)
 }

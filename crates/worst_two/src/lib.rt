@@ -55,29 +55,15 @@ pub fn last_two(
         set.new out.new result }
 {
     let n = search.n;
-    let k = search.k;
-    let s = search.s;
     let first = search.next.0;
-    let chosen = search.chosen;
-    let usable = search.usable;
-    let before = search.least;
-    let mut least = before;
-    let mut v = first;
-    loop {
-        let next = Node(v);
+    let mut least = search.least;
+    for v in first..n as u8 - 1 {
         let here = Search {
-            n,
-            k,
-            s,
-            next,
-            chosen,
-            usable,
+            next: Node(v),
             least,
+            ..search
         };
         least = choose_two(here, index, hits, set, out);
-        if n - v as usize == 2 {
-            return least;
-        }
-        v += 1;
     }
+    least
 }

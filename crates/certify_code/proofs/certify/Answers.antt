@@ -2,27 +2,27 @@
 -- first row on. Assumes nothing.
 use native.Mathlib.Omega.{arith}
 use Rattle.certify.specs.Certify.{certify}
-use Rattle.certify.proofs.Answered.{BareFound, bare-refused, bare-found}
+use Rattle.certify.proofs.Answered.{bare-refused, bare-found}
 use Rattle.certify.proofs.Writing.{refused-done, held-of-found, found-is}
 use Rattle.certify_code.proofs.certify.Goals as goal
 
-pub returns-in-Refused : goal.returns-in-Refused
+pub returns-in-Err : goal.returns-in-Err
 unfolding certify
-returns-in-Refused c =
+returns-in-Err c =
     refused-done c.args.out.now
-    (rw (bare-refused c.args.bytes.now c.read_bare-read.ensures c.in-Refused.is))
+    (rw (bare-refused c.args.bytes.now c.read_bare.ensures c.in-Err.is))
     c.refuse.ensures
 
 pub slice_bounds-certify_bare-count : goal.slice_bounds-certify_bare-count
-slice_bounds-certify_bare-count c = omega (arith, ((let found-here : BareFound c.args.bytes.now c.read_bare-read.ensures = bare-found _ c.read_bare-read.ensures c.in_default.is in found-here)).inside)
+slice_bounds-certify_bare-count c = omega (arith, (bare-found _ c.read_bare.ensures c.in-Ok.is).inside)
 
 pub slice_bounds-certify_bare-start : goal.slice_bounds-certify_bare-start
-slice_bounds-certify_bare-start c = omega (arith, ((let found-here : BareFound c.args.bytes.now c.read_bare-read.ensures = bare-found _ c.read_bare-read.ensures c.in_default.is in found-here)).inside)
+slice_bounds-certify_bare-start c = omega (arith, (bare-found _ c.read_bare.ensures c.in-Ok.is).inside)
 
 pub certify_bare-requires : goal.certify_bare-requires
-certify_bare-requires c = held-of-found _ ((let found-here : BareFound c.args.bytes.now c.read_bare-read.ensures = bare-found _ c.read_bare-read.ensures c.in_default.is in found-here))
+certify_bare-requires c = held-of-found _ (bare-found _ c.read_bare.ensures c.in-Ok.is)
 
-pub returns : goal.returns
+pub returns-in-Ok : goal.returns-in-Ok
 unfolding certify
-returns c =
-    rw (found-is _ ((let found-here : BareFound c.args.bytes.now c.read_bare-read.ensures = bare-found _ c.read_bare-read.ensures c.in_default.is in found-here))) c.certify_bare.ensures
+returns-in-Ok c =
+    rw (found-is _ (bare-found _ c.read_bare.ensures c.in-Ok.is)) c.certify_bare.ensures

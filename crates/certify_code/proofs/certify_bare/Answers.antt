@@ -15,9 +15,9 @@ check_output-bytes-requires c =
     let p = c.requires in
     ((rows-asked p).few, (rows-asked p).r-most)
 
-pub returns-in-Refused : goal.returns-in-Refused
-returns-in-Refused c =
-    refused-done _ (output-refused _ _ (verdict-refused _ c.check_output-bytes.ensures c.in-Refused.is)) c.refuse.ensures
+pub returns-in-Err : goal.returns-in-Err
+returns-in-Err c =
+    refused-done _ (output-refused _ _ (verdict-refused _ c.check_output-bytes.ensures c.in-Err.is)) c.refuse.ensures
 
 pub choose_layer-choice-requires : goal.choose_layer-choice-requires
 choose_layer-choice-requires c = let p = c.requires in record { rows_asked = rows-asked p; order_asked = order-asked p }

@@ -18,8 +18,8 @@ floors_down-requires c =
     )
 
 pub overflow_sub-result : goal.overflow_sub-result
-overflow_sub-result c = omega (arith, c.smaller-lost.ensures)
+overflow_sub-result c = omega (arith, c.min-lost.ensures)
 
 pub returns : goal.returns
 returns c =
-    choice-made _ _ _ c.most_together-lambda.ensures c.floors_down.ensures c.smaller-lost.ensures
+    choice-made _ _ _ c.most_together-lambda.ensures c.floors_down.ensures c.min-lost.ensures

@@ -3,7 +3,8 @@
 use Prim.Native.Nat.{◌+◌, ◌*◌, ◌^◌, ◌≤◌, ◌<◌}
 use native.Mathlib.Omega.{arith}
 use native.Mathlib.Nat.{mul-le-mul}
-use mathlib.Core.Path.{◌≡◌}
+use mathlib.Core.Path.{◌≡◌, ◌∙◌}
+use Rattle.refusal.proofs.Answered.{passed-on}
 use lib.ListN.{length}
 use Rattle.refusal.proofs.Checked.{verdict-good, verdict-refused}
 use Rattle.packing.specs.Rows.{rows_at}
@@ -23,13 +24,14 @@ returns-then-bytes-end c = rows_short _ _ _ _ c.if-bytes-end.true
 pub returns-then-end-bytes : goal.returns-then-end-bytes
 returns-then-end-bytes c = rows_long _ _ _ _ c.if-end-bytes.true
 
-pub check_ascending-order-requires : goal.check_ascending-order-requires
+pub check_ascending-requires : goal.check_ascending-requires
 unfolding rows_at
-check_ascending-order-requires c = record { r_in_bounds = search rules; start_le_rows = search rules; all = tt }
+check_ascending-requires c = record { r_in_bounds = search rules; start_le_rows = search rules; all = tt }
 
-pub returns-in-Refused : goal.returns-in-Refused
-returns-in-Refused c =
-    rows-unordered _ _ _ _ ((let ends-here : c.args.at + c.args.b * c.args.base.r ≡ length c.args.bytes.now = omega (arith, c.if-end-bytes.false, c.if-bytes-end.false) in ends-here)) (verdict-refused _ c.check_ascending-order.ensures c.in-Refused.is)
+pub returns-in_err-check_ascending : goal.returns-in_err-check_ascending
+returns-in_err-check_ascending c =
+    passed-on _ c.from_residual.ensures.1
+    ∙ rows-unordered _ _ _ _ ((let ends-here : c.args.at + c.args.b * c.args.base.r ≡ length c.args.bytes.now = omega (arith, c.if-end-bytes.false, c.if-bytes-end.false) in ends-here)) (verdict-refused _ c.check_ascending.ensures c.in_err-check_ascending.was)
 
 pub check_service-requires : goal.check_service-requires
 check_service-requires c =
@@ -37,4 +39,4 @@ check_service-requires c =
 
 pub returns : goal.returns
 returns c =
-    rows_last _ _ _ _ ((let ends-here : c.args.at + c.args.b * c.args.base.r ≡ length c.args.bytes.now = omega (arith, c.if-end-bytes.false, c.if-bytes-end.false) in ends-here)) (verdict-good _ c.check_ascending-order.ensures c.in_default.is).1 c.check_service.ensures
+    rows_last _ _ _ _ ((let ends-here : c.args.at + c.args.b * c.args.base.r ≡ length c.args.bytes.now = omega (arith, c.if-end-bytes.false, c.if-bytes-end.false) in ends-here)) (verdict-good _ c.check_ascending.ensures c.in_ok-check_ascending.was).1 c.check_service.ensures

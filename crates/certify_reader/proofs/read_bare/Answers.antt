@@ -1,63 +1,52 @@
 -- `certify_reader::read_bare` meets its contract: each return is a case of `read_bare`, over what reading the numbers and checking the
 -- rows ensure. Assumes nothing.
 use native.Mathlib.Omega.{arith}
-use mathlib.Core.Path.{◌≡◌, sym, ◌∙◌, ap}
-use Rattle.refusal.specs.Checked.{accepted}
+use mathlib.Core.Path.{sym, ◌∙◌, ap}
+use Rattle.refusal.proofs.Answered.{passed-on, answered-err}
 use Rattle.refusal.proofs.Checked.{verdict-good, verdict-refused}
-use Rattle.layers.specs.Answers.{site_of}
-use Rattle.layers.proofs.Answered.{base-refused}
 use Rattle.certify.specs.Answers.{bare_read}
 use Rattle.certify.specs.Bare.{read_start, read_order, check_bare_rows}
-use Rattle.certify.proofs.Answered.{StartGood, start-good, order-refused, order-good, no_start, no-order, order-within, order-inside, no_rows, all-answered}
+use Rattle.certify.proofs.Answered.{start-good, order-good, no_start, no-order, order-within, order-inside, no_rows, all-answered}
 use Rattle.certify_reader.proofs.read_bare.Goals as goal
 
-pub returns-in-Refused : goal.returns-in-Refused
-returns-in-Refused c =
-    c.refuse.ensures
-    ∙ sym (ap bare_read (no_start _ (base-refused (read_start _) c.read_start-start.ensures c.in-Refused.is)))
+pub returns-in_err-start : goal.returns-in_err-start
+returns-in_err-start c =
+    passed-on _ c.from_residual.ensures.1
+    ∙ sym (ap bare_read (no_start _ (answered-err _ (read_start _) c.read_start.ensures c.in_err-start.was)))
 
-pub read_order-numbers-requires : goal.read_order-numbers-requires
-read_order-numbers-requires c = omega (arith, ((let started-here : StartGood c.args.bytes.now c.read_start-start.result = start-good _ c.read_start-start.ensures c.in_default.is in started-here)).held.limits.n-least)
+pub read_order-requires : goal.read_order-requires
+read_order-requires c = omega (arith, (start-good _ c.read_start.ensures c.in_ok-start.was).held.limits.n-least)
 
-pub returns-in-Refused-numbers_verdict : goal.returns-in-Refused-numbers_verdict
-returns-in-Refused-numbers_verdict c =
-    c.refuse-in-Refused-numbers_verdict.ensures
-    ∙ sym (ap bare_read (no-order _ ((let started-here : StartGood c.args.bytes.now c.read_start-start.result = start-good _ c.read_start-start.ensures c.in_default.is in started-here)).accepts
-    (order-refused (read_order _ _ _) c.read_order-numbers.ensures c.in-Refused-numbers_verdict.is)))
+pub returns-in_err-numbers : goal.returns-in_err-numbers
+returns-in_err-numbers c =
+    let start = start-good _ c.read_start.ensures c.in_ok-start.was in
+    passed-on _ c.from_residual-in_err-numbers.ensures.1
+    ∙ sym (ap bare_read (no-order _ start.accepts (answered-err _ (read_order _ _ _) c.read_order.ensures c.in_err-numbers.was)))
 
-pub check_rows-rows-requires : goal.check_rows-rows-requires
-check_rows-rows-requires c =
-    let start = (let started-here : StartGood c.args.bytes.now c.read_start-start.result = start-good _ c.read_start-start.ensures c.in_default.is in started-here) in
+pub check_rows-requires : goal.check_rows-requires
+check_rows-requires c =
+    let start = start-good _ c.read_start.ensures c.in_ok-start.was in
+    let order = order-good _ c.read_order.ensures c.in_ok-numbers.was in
     let two = start.held.limits.n-least in
-    let limits = order-within _ start.accepts ((let order-of-here : let read = c.read_order-numbers.result in
-    let start = c.read_start-start.result in
-    read_order (site_of start.base) c.args.bytes.now start.next
-    ≡ accepted (record { order = read.order; next = read.next }) = order-good _ c.read_order-numbers.ensures c.in_default-numbers_verdict.is in order-of-here)) two in
     record {
       b_bound = (
-        limits.b-most,
+        (order-within _ start.accepts order two).b-most,
         start.held.limits.r-most,
-        order-inside _ start.accepts ((let order-of-here : let read = c.read_order-numbers.result in
-            let start = c.read_start-start.result in
-            read_order (site_of start.base) c.args.bytes.now start.next
-            ≡ accepted (record { order = read.order; next = read.next }) = order-good _ c.read_order-numbers.ensures c.in_default-numbers_verdict.is in order-of-here)) two start.inside,
+        order-inside _ start.accepts order two start.inside,
       );
       dark_fits = start.fits;
     }
 
-pub returns-in-Refused-rows : goal.returns-in-Refused-rows
-returns-in-Refused-rows c =
-    c.refuse-in-Refused-rows.ensures
-    ∙ sym (ap bare_read (no_rows _ ((let started-here : StartGood c.args.bytes.now c.read_start-start.result = start-good _ c.read_start-start.ensures c.in_default.is in started-here)).accepts ((let order-of-here : let read = c.read_order-numbers.result in
-    let start = c.read_start-start.result in
-    read_order (site_of start.base) c.args.bytes.now start.next
-    ≡ accepted (record { order = read.order; next = read.next }) = order-good _ c.read_order-numbers.ensures c.in_default-numbers_verdict.is in order-of-here))
-    (verdict-refused (check_bare_rows _ _ _ _) c.check_rows-rows.ensures c.in-Refused-rows.is)))
+pub returns-in_err-check_rows : goal.returns-in_err-check_rows
+returns-in_err-check_rows c =
+    let start = start-good _ c.read_start.ensures c.in_ok-start.was in
+    let order = order-good _ c.read_order.ensures c.in_ok-numbers.was in
+    passed-on _ c.from_residual-in_err-check_rows.ensures.1
+    ∙ sym (ap bare_read (no_rows _ start.accepts order (verdict-refused (check_bare_rows _ _ _ _) c.check_rows.ensures c.in_err-check_rows.was)))
 
 pub returns : goal.returns
 returns c =
-    let (rows, taken) = verdict-good (check_bare_rows _ _ _ _) c.check_rows-rows.ensures c.in_default-rows.is in
-    all-answered _ c.read_start-start.result c.read_order-numbers.result ((let started-here : StartGood c.args.bytes.now c.read_start-start.result = start-good _ c.read_start-start.ensures c.in_default.is in started-here)) ((let order-of-here : let read = c.read_order-numbers.result in
-    let start = c.read_start-start.result in
-    read_order (site_of start.base) c.args.bytes.now start.next
-    ≡ accepted (record { order = read.order; next = read.next }) = order-good _ c.read_order-numbers.ensures c.in_default-numbers_verdict.is in order-of-here)) taken
+    let start = start-good _ c.read_start.ensures c.in_ok-start.was in
+    let order = order-good _ c.read_order.ensures c.in_ok-numbers.was in
+    let (rows, taken) = verdict-good (check_bare_rows _ _ _ _) c.check_rows.ensures c.in_ok-check_rows.was in
+    all-answered _ _ _ start order taken

@@ -6,4 +6,4 @@ pub returns-in_default : goal.returns-in_default
 returns-in_default c = absurd (reply-not-refused _ c.check_reply.ensures (check_into-enough c.args.input.now _ c.requires) c.in_default.is)
 
 pub returns : goal.returns
-returns c = reply-written _ c.check_reply.ensures (check_into-enough c.args.input.now _ c.requires) c.in-Written.is
+returns c = reply-written _ c.check_reply.ensures (check_into-enough c.args.input.now _ c.requires) c.in-Ok.is

@@ -19,43 +19,43 @@ use Rattle.commit.proofs.Checks.{CommitFits, counts-passed, check_counts-held, o
 use Rattle.commit.proofs.Committed.{writable, counts-answered, refused-done, committed-done}
 use Rattle.commit_code.proofs.commit_pack.Goals as goal
 
-pub returns-in-Refused : goal.returns-in-Refused
-returns-in-Refused c =
+pub returns-in-Err : goal.returns-in-Err
+returns-in-Err c =
     refused-done _
-    (order-refused _ _ _ _ (verdict-refused _ c.check_order-limits.ensures c.in-Refused.is))
+    (order-refused _ _ _ _ (verdict-refused _ c.check_order-limits.ensures c.in-Err.is))
     c.refuse.ensures
 
 pub check_blocks-some-requires : goal.check_blocks-some-requires
 check_blocks-some-requires c = le_trans ((let within-here : OrderLimits c.args.base.n c.args.base.r c.args.order = order-within _ _ _ ((let ordered-here : check_order c.args.base.n c.args.base.r c.args.order ≡ accepted tt = passed _ c.check_order-limits.ensures c.in_default.is in ordered-here)) in within-here)).s-most ((let r-most-here : c.args.base.r ≤ 5 = c.requires.good.limits.base.r-most in r-most-here))
 
-pub returns-in-Refused-some : goal.returns-in-Refused-some
-returns-in-Refused-some c =
+pub returns-in-Err-some : goal.returns-in-Err-some
+returns-in-Err-some c =
     refused-done _
     (blocks-refused _ _ _ _ ((let ordered-here : check_order c.args.base.n c.args.base.r c.args.order ≡ accepted tt = passed _ c.check_order-limits.ensures c.in_default.is in ordered-here))
-    ((let same_blocks-here : check_blocks (heads_of ((let pack_of-here : Pack = held_pack c.args.base c.args.layers c.args.blocks.now in pack_of-here)).layers) c.args.order.s ≡ check_blocks c.args.layers c.args.order.s = check_blocks-held c.args.base.r c.args.layers c.args.blocks.now c.args.order.s ((let within-here : OrderLimits c.args.base.n c.args.base.r c.args.order = order-within _ _ _ ((let ordered-here : check_order c.args.base.n c.args.base.r c.args.order ≡ accepted tt = passed _ c.check_order-limits.ensures c.in_default.is in ordered-here)) in within-here)).s-most in same_blocks-here) ∙ verdict-refused _ c.check_blocks-some.ensures c.in-Refused-some.is))
-    c.refuse-in-Refused-some.ensures
+    ((let same_blocks-here : check_blocks (heads_of ((let pack_of-here : Pack = held_pack c.args.base c.args.layers c.args.blocks.now in pack_of-here)).layers) c.args.order.s ≡ check_blocks c.args.layers c.args.order.s = check_blocks-held c.args.base.r c.args.layers c.args.blocks.now c.args.order.s ((let within-here : OrderLimits c.args.base.n c.args.base.r c.args.order = order-within _ _ _ ((let ordered-here : check_order c.args.base.n c.args.base.r c.args.order ≡ accepted tt = passed _ c.check_order-limits.ensures c.in_default.is in ordered-here)) in within-here)).s-most in same_blocks-here) ∙ verdict-refused _ c.check_blocks-some.ensures c.in-Err-some.is))
+    c.refuse-in-Err-some.ensures
 
-pub returns-in-Refused-split : goal.returns-in-Refused-split
-returns-in-Refused-split c =
+pub returns-in-Err-split : goal.returns-in-Err-split
+returns-in-Err-split c =
     refused-done _
     (counts-refused _ _ _ _ ((let ordered-here : check_order c.args.base.n c.args.base.r c.args.order ≡ accepted tt = passed _ c.check_order-limits.ensures c.in_default.is in ordered-here)) ((let some_block-here : check_blocks (heads_of ((let pack_of-here : Pack = held_pack c.args.base c.args.layers c.args.blocks.now in pack_of-here)).layers) c.args.order.s ≡ accepted tt = (let same_blocks-here : check_blocks (heads_of ((let pack_of-here : Pack = held_pack c.args.base c.args.layers c.args.blocks.now in pack_of-here)).layers) c.args.order.s ≡ check_blocks c.args.layers c.args.order.s = check_blocks-held c.args.base.r c.args.layers c.args.blocks.now c.args.order.s ((let within-here : OrderLimits c.args.base.n c.args.base.r c.args.order = order-within _ _ _ ((let ordered-here : check_order c.args.base.n c.args.base.r c.args.order ≡ accepted tt = passed _ c.check_order-limits.ensures c.in_default.is in ordered-here)) in within-here)).s-most in same_blocks-here) ∙ passed _ c.check_blocks-some.ensures c.in_default-some.is in some_block-here))
     ((let same-counts-here : check_counts (heads_of ((let pack_of-here : Pack = held_pack c.args.base c.args.layers c.args.blocks.now in pack_of-here)).layers) c.args.order.s c.args.order.b c.args.counts
     ≡ check_counts c.args.layers c.args.order.s c.args.order.b c.args.counts = check_counts-held c.args.base.r c.args.layers c.args.blocks.now c.args.order.s c.args.order.b c.args.counts
-    ((let within-here : OrderLimits c.args.base.n c.args.base.r c.args.order = order-within _ _ _ ((let ordered-here : check_order c.args.base.n c.args.base.r c.args.order ≡ accepted tt = passed _ c.check_order-limits.ensures c.in_default.is in ordered-here)) in within-here)).s-most in same-counts-here) ∙ verdict-refused _ c.check_counts-split.ensures c.in-Refused-split.is))
-    c.refuse-in-Refused-split.ensures
+    ((let within-here : OrderLimits c.args.base.n c.args.base.r c.args.order = order-within _ _ _ ((let ordered-here : check_order c.args.base.n c.args.base.r c.args.order ≡ accepted tt = passed _ c.check_order-limits.ensures c.in_default.is in ordered-here)) in within-here)).s-most in same-counts-here) ∙ verdict-refused _ c.check_counts-split.ensures c.in-Err-split.is))
+    c.refuse-in-Err-split.ensures
 
 pub check_output-bytes-requires : goal.check_output-bytes-requires
 check_output-bytes-requires c =
     (((let within-here : OrderLimits c.args.base.n c.args.base.r c.args.order = order-within _ _ _ ((let ordered-here : check_order c.args.base.n c.args.base.r c.args.order ≡ accepted tt = passed _ c.check_order-limits.ensures c.in_default.is in ordered-here)) in within-here)).b-most, (let r-most-here : c.args.base.r ≤ 5 = c.requires.good.limits.base.r-most in r-most-here))
 
-pub returns-in-Refused-bytes : goal.returns-in-Refused-bytes
-returns-in-Refused-bytes c =
+pub returns-in-Err-bytes : goal.returns-in-Err-bytes
+returns-in-Err-bytes c =
     refused-done _
     (output-refused _ _ _ _ ((let ordered-here : check_order c.args.base.n c.args.base.r c.args.order ≡ accepted tt = passed _ c.check_order-limits.ensures c.in_default.is in ordered-here)) ((let some_block-here : check_blocks (heads_of ((let pack_of-here : Pack = held_pack c.args.base c.args.layers c.args.blocks.now in pack_of-here)).layers) c.args.order.s ≡ accepted tt = (let same_blocks-here : check_blocks (heads_of ((let pack_of-here : Pack = held_pack c.args.base c.args.layers c.args.blocks.now in pack_of-here)).layers) c.args.order.s ≡ check_blocks c.args.layers c.args.order.s = check_blocks-held c.args.base.r c.args.layers c.args.blocks.now c.args.order.s ((let within-here : OrderLimits c.args.base.n c.args.base.r c.args.order = order-within _ _ _ ((let ordered-here : check_order c.args.base.n c.args.base.r c.args.order ≡ accepted tt = passed _ c.check_order-limits.ensures c.in_default.is in ordered-here)) in within-here)).s-most in same_blocks-here) ∙ passed _ c.check_blocks-some.ensures c.in_default-some.is in some_block-here)) ((let pack-counts-here : check_counts (heads_of ((let pack_of-here : Pack = held_pack c.args.base c.args.layers c.args.blocks.now in pack_of-here)).layers) c.args.order.s c.args.order.b c.args.counts ≡ accepted tt = (let same-counts-here : check_counts (heads_of ((let pack_of-here : Pack = held_pack c.args.base c.args.layers c.args.blocks.now in pack_of-here)).layers) c.args.order.s c.args.order.b c.args.counts
     ≡ check_counts c.args.layers c.args.order.s c.args.order.b c.args.counts = check_counts-held c.args.base.r c.args.layers c.args.blocks.now c.args.order.s c.args.order.b c.args.counts
     ((let within-here : OrderLimits c.args.base.n c.args.base.r c.args.order = order-within _ _ _ ((let ordered-here : check_order c.args.base.n c.args.base.r c.args.order ≡ accepted tt = passed _ c.check_order-limits.ensures c.in_default.is in ordered-here)) in within-here)).s-most in same-counts-here) ∙ (let checked-counts-here : check_counts c.args.layers c.args.order.s c.args.order.b c.args.counts ≡ accepted tt = passed _ c.check_counts-split.ensures c.in_default-split.is in checked-counts-here) in pack-counts-here))
-    (verdict-refused _ c.check_output-bytes.ensures c.in-Refused-bytes.is))
-    c.refuse-in-Refused-bytes.ensures
+    (verdict-refused _ c.check_output-bytes.ensures c.in-Err-bytes.is))
+    c.refuse-in-Err-bytes.ensures
 
 pub write_placement-answer-requires : goal.write_placement-answer-requires
 write_placement-answer-requires c =

@@ -47,8 +47,8 @@ pub search-found-requires : goal.search-found-requires
 search-found-requires c =
     record { c_bound = (omega (arith, c.keep_rows-m.ensures.fewer, c.requires.c_bound.0), c.requires.c_bound.1, c.requires.c_bound.2, c.keep_rows-m.ensures.whole); order = c.keep_rows-m.ensures.order }
 
-pub returns-in-At : goal.returns-in-At
-returns-in-At c e = absurd (false-T (sym e) tt)
+pub returns-in-Some : goal.returns-in-Some
+returns-in-Some c e = absurd (false-T (sym e) tt)
 
 pub returns : goal.returns
 returns c e =

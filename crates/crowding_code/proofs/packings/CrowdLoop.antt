@@ -1,6 +1,7 @@
 -- The packing test layer by layer, each on the part of the bytes that begins at its first row: what each turn of the loop
 -- keeps, and what it answers. Assumes nothing.
 use Prim.Native.Nat.{ℕ, suc, ◌+◌, ◌*◌, ◌≤◌, ◌<◌}
+use Rattle.std.specs.Prelude.{Option as Given, Some, None, Ok, Err}
 use native.Mathlib.Omega.{arith}
 use native.Mathlib.Numerals.{add-one}
 use native.Mathlib.Nat.{mul-le-mul_right, le_of_lt}
@@ -13,12 +14,9 @@ use Rattle.lists.specs.Lists.{total}
 use Rattle.lists.proofs.Alls.{all-append-left, all-append-right}
 use Rattle.lists.proofs.Finds.{some-first_where}
 use Rattle.refusal.specs.declared.Refusal.TheVariants.{Crowded}
-use Rattle.refusal.specs.declared.Verdict.TheVariants.{Good, Refused}
 use Rattle.refusal.specs.Checked.{Checked, accepted, refused, verdict}
 use Rattle.packing.specs.Rows.{rows_at, crowded, first_crowded}
 use Rattle.packing.specs.Answers.{row_found}
-use Rattle.packing.specs.declared.RowFound.{RowFound}
-use Rattle.packing.specs.declared.RowFound.TheVariants.{At, Nothing}
 use Rattle.packing.specs.declared.Record.{Record}
 use Rattle.packing.proofs.RowsAt.{length-rows_at}
 use Rattle.packing.proofs.Found.{row_found-at, row_found-nothing}
@@ -65,7 +63,7 @@ crowd-holds r layers heads s at asked =
     }
 
 module _ (r layers : ℕ) (heads : List LayerHead) (s : List ℕ) (at start x : ℕ) (turn : CrowdTurn r layers heads s at start x) where
-  pub crowd-done : layers ≤ x → Good ≡ verdict (answer_of r layers heads s at)
+  pub crowd-done : layers ≤ x → Ok tt ≡ verdict (answer_of r layers heads s at)
   unfolding layers_at first_crowded_of
   crowd-done h =
       let none_left : drop x (take layers heads) ≡ [] = drop_of_length-le (take layers heads) {i = x} (omega (arith, length-take layers heads)) in
@@ -107,14 +105,14 @@ module _ (r layers : ℕ) (heads : List LayerHead) (s : List ℕ) (at start x : 
     unfolding head rows after first_crowded_of
     whole = rw (split, length-rows_at r (get_or heads x no_head).size (drop start s)) at turn.same
 
-    module _ (part : List ℕ) (is : part ≡ drop start s) (found : RowFound)
+    module _ (part : List ℕ) (is : part ≡ drop start s) (found : Given Record)
         (are : found
         ≡ row_found (first_crowded x (get_or heads x no_head).bound (rows_at r (get_or heads x no_head).size part))) where
       first : found ≡ row_found (first_crowded x head.bound rows)
       unfolding head rows
       first = rw is at are
 
-      module _ {row : Record} (e : found ≡ At row) where
+      module _ {row : Record} (e : found ≡ Some row) where
         some_first : first_crowded x head.bound rows ≡ some row.0
         some_first = row_found-at (first_crowded x head.bound rows) (sym e ∙ first)
 
@@ -125,10 +123,10 @@ module _ (r layers : ℕ) (heads : List LayerHead) (s : List ℕ) (at start x : 
             let within = (some-first_where (crowded x head.bound rows) rows [] row.0 some_first).within in
             mul-le-mul_right r (le_of_lt (rw (length-rows_at r (get_or heads x no_head).size (drop start s)) at within))
 
-        pub crowd-found : Refused (Crowded (start + row.0 * r)) ≡ verdict (answer_of r layers heads s at)
+        pub crowd-found : Err (Crowded (start + row.0 * r)) ≡ verdict (answer_of r layers heads s at)
         crowd-found = ap verdict (rw some_first at whole)
 
-      pub crowd-again : found ≡ Nothing → CrowdTurn r layers heads s at (start + (get_or heads x no_head).size * r) (x + 1)
+      pub crowd-again : found ≡ None → CrowdTurn r layers heads s at (start + (get_or heads x no_head).size * r) (x + 1)
       unfolding head rows after total flatten
       crowd-again e =
           let no-first : first_crowded x head.bound rows ≡ none =

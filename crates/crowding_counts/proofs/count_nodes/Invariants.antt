@@ -17,7 +17,4 @@ pub record Counting (rows counts₀ : List ℕ) (from to : ℕ) (counts : List �
   pub counted : (v : ℕ) → get_or counts v 0 + times rows v f (to - f) ≡ get_or counts₀ v 0 + times rows v from (to - from)
 
 abbrev pub invariant-loop-f : goal.invariant-loop-f
-invariant-loop-f l = Counting l.rows l.initial.counts l.from l.to l.counts l.f l.largest
-
-abbrev pub decreases-loop-f : goal.decreases-loop-f
-decreases-loop-f l = l.to - l.f
+invariant-loop-f l = Counting l.rows l.initial.counts l.fn.span.from l.fn.span.to l.counts l.f l.largest

@@ -8,7 +8,7 @@ use Rattle.crowding_counts.proofs.most_after.Goals as goal
 
 pub returns-then-w-ne1 : goal.returns-then-w-ne1
 returns-then-w-ne1 c =
-    rw (ne_eqb c.args.level.w 1 (omega arith))
+    rw (ne_eqb c.args.level.w 1 (omega arith), c.from.ensures)
     (sym (length-tails c.args.level.r c.args.rows.now c.args.chain.count c.args.next.now c.args.chain.head))
 
 pub count_tails-requires : goal.count_tails-requires

@@ -1,6 +1,7 @@
 -- Reading the nodes' numbers one at a time: what each turn of the loop keeps, and what it answers; and the cases of reading the
 -- list. Assumes nothing.
 use Prim.Native.Nat.{ℕ, suc, ◌+◌, ◌-◌, ◌≤◌, ◌<◌}
+use Rattle.std.specs.Prelude.{Ok}
 use native.Mathlib.Omega.{arith}
 use native.Mathlib.Numerals.{add-one}
 use native.Mathlib.Nat.{sub-zero}
@@ -9,13 +10,11 @@ use mathlib.Core.Bool.{true, false}
 use mathlib.Core.List.{List, [], ◌∷◌, ◌++◌, append_assoc, append-nil}
 use lib.ListN.{length, set, replicate, length-append}
 use Rattle.refusal.specs.declared.Refusal.{Refusal}
-use Rattle.refusal.specs.declared.Verdict.TheVariants.{Good}
 use Rattle.refusal.specs.Checked.{Checked, accepted, refused, ◌>>=◌, map_accepted}
 use Rattle.number.specs.Numbers.{read_within}
 use Rattle.number.specs.declared.Reading.{Reading}
 use Rattle.number.proofs.Within.{read-of-read_within}
 use Rattle.layers.specs.Layers.{NodesReading, listed, read_nodes, read_list, read_dark}
-use Rattle.layers.specs.declared.DarkRead.{DarkRead}
 use Rattle.layers.specs.Answers.{nodes_array, dark_read}
 use Rattle.layers.proofs.Listing.{nodes_array-nil, nodes_array-snoc}
 
@@ -55,8 +54,7 @@ nodes-hold n count s at =
 module _ (n count : ℕ) (s : List ℕ) (at : ℕ) (nodes : List ℕ) (next least i : ℕ) (turn : NodesTurn n count s at nodes next least i) where
   -- the loop ends: what was read is all
   pub nodes-done : count ≤ i
-      → ◌≡◌ {A = DarkRead} (record { verdict = Good; dark = record { count = count; nodes = nodes }; next = next })
-      (dark_read (read_nodes n count 0 s at))
+      → Ok (record { dark = record { count = count; nodes = nodes }; next = next }) ≡ dark_read (read_nodes n count 0 s at)
   unfolding read_nodes
   nodes-done h =
       let none : count - i ≡ 0 = omega arith in

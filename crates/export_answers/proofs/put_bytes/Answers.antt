@@ -6,18 +6,17 @@ use Rattle.lists.proofs.Writing.{set-take-append-drop, take-append-drop-all}
 use Rattle.export_answers.proofs.put_bytes.Goals as goal
 
 pub loop-place-init : goal.loop-place-init
-loop-place-init c = (search rules, refl, refl)
+loop-place-init c = (refl, refl)
 
 pub loop-place-preserved : goal.loop-place-preserved
 loop-place-preserved c =
     let turn = c.loop-place-test.true in (
-      omega arith,
-      simp length-set c.loop-place.invariant.1,
-      rw c.wide.ensures
-          (ap (λ now. set now c.loop-place.place (get_or c.args.bytes.now c.loop-place.place 0)) c.loop-place.invariant.2
+      simp length-set c.loop-place.invariant.0,
+      rw c.from.ensures
+          (ap (λ now. set now c.loop-place.place (get_or c.args.bytes.now c.loop-place.place 0)) c.loop-place.invariant.1
           ∙ set-take-append-drop c.args.bytes.now c.args.answer.now c.loop-place.place 0 turn (omega arith)),
     )
 
 pub returns : goal.returns
 returns c =
-    c.loop-place.invariant.2 ∙ take-append-drop-all c.args.bytes.now c.args.answer.now c.loop-place.place (omega arith)
+    c.loop-place.invariant.1 ∙ take-append-drop-all c.args.bytes.now c.args.answer.now c.loop-place.place (omega arith)

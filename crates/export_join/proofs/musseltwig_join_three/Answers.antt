@@ -5,9 +5,9 @@ use Rattle.export_join.proofs.musseltwig_join_three.Goals as goal
 pub returns-then-answer-lt2 : goal.returns-then-answer-lt2
 returns-then-answer-lt2 c = join-short _ _ _ c.if-answer-lt2.true
 
-pub tell_joined-requires : goal.tell_joined-requires
-tell_joined-requires c = c.if-answer-lt2.false
+pub writing-requires : goal.writing-requires
+writing-requires c = c.if-answer-lt2.false
 
 pub returns : goal.returns
 returns c =
-    join-told _ _ _ _ _ _ _ c.if-answer-lt2.false c.join_three-joined.ensures c.tell_joined.ensures
+    join-told _ _ _ _ _ _ _ c.if-answer-lt2.false c.join_three-joined.ensures c.writing.ensures

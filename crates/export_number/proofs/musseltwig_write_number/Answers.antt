@@ -5,9 +5,9 @@ use Rattle.export_number.proofs.musseltwig_write_number.Goals as goal
 pub returns-then-answer-lt2 : goal.returns-then-answer-lt2
 returns-then-answer-lt2 c = number_short _ _ _ c.if-answer-lt2.true
 
-pub tell_written-requires : goal.tell_written-requires
-tell_written-requires c = c.if-answer-lt2.false
+pub writing-requires : goal.writing-requires
+writing-requires c = c.if-answer-lt2.false
 
 pub returns : goal.returns
 returns c =
-    number-told _ _ _ _ _ _ _ c.if-answer-lt2.false c.write_number-wrote.ensures c.tell_written.ensures
+    number-told _ _ _ _ _ _ _ c.if-answer-lt2.false c.write_number-wrote.ensures c.writing.ensures

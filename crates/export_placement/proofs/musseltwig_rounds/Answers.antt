@@ -6,9 +6,9 @@ use Rattle.export_placement.proofs.musseltwig_rounds.Goals as goal
 pub returns-then-answer-lt2 : goal.returns-then-answer-lt2
 returns-then-answer-lt2 c = short-told _ _ _ c.if-answer-lt2.true
 
-pub tell_usable-requires : goal.tell_usable-requires
-tell_usable-requires c = c.if-answer-lt2.false
+pub writing-requires : goal.writing-requires
+writing-requires c = c.if-answer-lt2.false
 
 pub returns : goal.returns
 returns c =
-    put-told rounds_outcome _ _ 2 _ _ _ c.if-answer-lt2.false c.rounds-usable.ensures c.tell_usable.ensures
+    put-told rounds_outcome _ _ 2 _ _ _ c.if-answer-lt2.false c.rounds-usable.ensures c.writing.ensures

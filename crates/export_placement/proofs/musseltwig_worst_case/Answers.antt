@@ -5,9 +5,9 @@ use Rattle.export_placement.proofs.musseltwig_worst_case.Goals as goal
 pub returns-then-answer-lt2 : goal.returns-then-answer-lt2
 returns-then-answer-lt2 c = worst-short _ _ _ c.if-answer-lt2.true
 
-pub tell_fewest-requires : goal.tell_fewest-requires
-tell_fewest-requires c = c.if-answer-lt2.false
+pub writing-requires : goal.writing-requires
+writing-requires c = c.if-answer-lt2.false
 
 pub returns : goal.returns
 returns c =
-    worst-told _ _ _ _ _ _ _ c.if-answer-lt2.false c.worst_case-fewest.ensures c.tell_fewest.ensures
+    worst-told _ _ _ _ _ _ _ c.if-answer-lt2.false c.worst_case-fewest.ensures c.writing.ensures

@@ -5,9 +5,9 @@ use Rattle.export_report.proofs.musseltwig_check_reply.Goals as goal
 pub returns-then-answer-lt2 : goal.returns-then-answer-lt2
 returns-then-answer-lt2 c = reply-short _ _ _ c.if-answer-lt2.true
 
-pub tell_reply-requires : goal.tell_reply-requires
-tell_reply-requires c = c.if-answer-lt2.false
+pub writing-requires : goal.writing-requires
+writing-requires c = c.if-answer-lt2.false
 
 pub returns : goal.returns
 returns c =
-    reply-told _ _ _ _ _ _ _ c.if-answer-lt2.false c.check_reply-reply.ensures c.tell_reply.ensures
+    reply-told _ _ _ _ _ _ _ c.if-answer-lt2.false c.check_reply-reply.ensures c.writing.ensures

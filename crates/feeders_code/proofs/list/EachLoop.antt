@@ -1,6 +1,7 @@
 -- Reading the feeders of the nodes one at a time: what each turn of the loop keeps, and what it answers; and the cases of reading
 -- their number first. Assumes nothing.
 use Prim.Native.Nat.{ℕ, suc, ◌+◌, ◌-◌, ◌≤◌, ◌<◌, max}
+use Rattle.std.specs.Prelude.{Ok}
 use native.Mathlib.Omega.{arith}
 use native.Mathlib.Nat.{sub-zero}
 use native.Mathlib.Numerals.{add-one}
@@ -9,7 +10,6 @@ use mathlib.Core.List.{List, [], ◌∷◌, ◌++◌, append_assoc, append-nil}
 use mathlib.Core.Option.{some}
 use lib.ListN.{length, set, replicate, length-append}
 use Rattle.refusal.specs.declared.Refusal.{Refusal}
-use Rattle.refusal.specs.declared.Verdict.TheVariants.{Good}
 use Rattle.refusal.specs.Checked.{Checked, accepted, refused, ◌>>=◌, map_accepted}
 use Rattle.number.specs.Numbers.{read_within}
 use Rattle.number.specs.declared.Reading.{Reading}
@@ -18,7 +18,6 @@ use Rattle.layers.specs.Layers.{NodesReading}
 use Rattle.layers.specs.Answers.{nodes_array}
 use Rattle.layers.proofs.Listing.{nodes_array-nil, nodes_array-snoc}
 use Rattle.placement.specs.Feeders.{FeedersReading, read_each, read_numbered}
-use Rattle.placement.specs.declared.FeedersRead.{FeedersRead}
 use Rattle.placement.specs.Answers.{feeders_read}
 
 -- g, the feeders read before, and those that are read from here on
@@ -53,8 +52,8 @@ each-hold g count s at =
 module _ (g count : ℕ) (s : List ℕ) (at : ℕ) (each : List ℕ) (next i : ℕ) (turn : EachTurn g count s at each next i) where
   -- the loop ends: what was read is all
   pub each-done : count ≤ i
-      → ◌≡◌ {A = FeedersRead} (record { verdict = Good; table = record { number = g; each = each }; next = next })
-      (feeders_read (numbered g [] (read_each g count s at)))
+      → Ok (record { table = record { number = g; each = each }; next = next })
+      ≡ feeders_read (numbered g [] (read_each g count s at))
   unfolding read_each
   each-done h =
       let none : count - i ≡ 0 = omega arith in

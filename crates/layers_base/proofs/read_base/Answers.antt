@@ -1,58 +1,57 @@
 -- `layers_base::read_base` meets its contract: each return is a case of `read_base`, over what the readings of the
 -- numbers ensure. Assumes nothing.
-use Prim.Native.Nat.{min}
+use Prim.Native.Nat.{ℕ, min}
 use native.Mathlib.Omega.{arith}
-use mathlib.Core.Path.{sym, ◌∙◌, ap}
+use mathlib.Core.Path.{◌≡◌, sym, ◌∙◌, ap}
+use Rattle.refusal.proofs.Answered.{passed-on, answered-err, answered-ok}
 use Rattle.number.specs.Numbers.{read_within}
 use Rattle.number.proofs.Within.{was_read, was-refused, read-of-read_within}
-use Rattle.layers.specs.Layers.{read_kind}
+use Rattle.layers.specs.Layers.{read_kind, read_dark}
 use Rattle.layers.specs.Answers.{base_read}
-use Rattle.layers_base.proofs.Based.{base-no-kind, base-no-n, base-no-r, list-refused, list-good}
+use Rattle.layers_base.proofs.Based.{base-no-kind, base-no-n, base-no-r, base-no-list, list-good}
 use Rattle.layers_base.proofs.read_base.Goals as goal
 
-pub returns-in_default : goal.returns-in_default
-returns-in_default c =
-    let no_kind = was-refused (read_kind c.args.file c.args.bytes.now) c.read_kind-first.ensures
-    c.in_default.is c.refusal_of.ensures in
-    c.refuse.ensures ∙ sym (ap base_read (base-no-kind c.args.file c.args.bytes.now no_kind))
+lower-five : (n : ℕ) {low : ℕ} → low ≡ min n 5 → low ≡ min 5 n
+lower-five n h = omega (arith, h)
 
-pub returns-in_default-second : goal.returns-in_default-second
-returns-in_default-second c =
-    let kind-read = was_read (read_kind c.args.file c.args.bytes.now) c.read_kind-first.ensures c.in-Value.is in
-    let no-n = was-refused (read_within 2 255 c.args.bytes.now _) c.read_within-second.ensures c.in_default-second.is
-    c.refusal_of-in_default-second.ensures in
-    c.refuse-in_default-second.ensures ∙ sym (ap base_read (base-no-n c.args.file c.args.bytes.now kind-read no-n))
+pub returns-in_err-kind : goal.returns-in_err-kind
+returns-in_err-kind c =
+    let no-kind = was-refused (read_kind c.args.file c.args.bytes.now) c.read_kind.ensures c.in_err-kind.was in
+    passed-on _ c.from_residual.ensures.1 ∙ sym (ap base_read (base-no-kind c.args.file c.args.bytes.now no-kind))
 
-pub returns-in_default-third : goal.returns-in_default-third
-returns-in_default-third c =
-    let kind-read = was_read (read_kind c.args.file c.args.bytes.now) c.read_kind-first.ensures c.in-Value.is in
-    let n-read = was_read (read_within 2 255 c.args.bytes.now _) c.read_within-second.ensures c.in-Value-second.is in
-    let no-r = was-refused (read_within 2 (min 5 _) c.args.bytes.now _) (rw c.smaller.ensures at c.read_within-third.ensures)
-    c.in_default-third.is c.refusal_of-in_default-third.ensures in
-    c.refuse-in_default-third.ensures ∙ sym (ap base_read (base-no-r c.args.file c.args.bytes.now kind-read n-read no-r))
+pub returns-in_err-n : goal.returns-in_err-n
+returns-in_err-n c =
+    let kind-read = was_read (read_kind c.args.file c.args.bytes.now) c.read_kind.ensures c.in_ok-kind.was in
+    let no-n = was-refused (read_within 2 255 c.args.bytes.now _) c.read_within.ensures c.in_err-n.was in
+    passed-on _ c.from_residual-in_err-n.ensures.1 ∙ sym (ap base_read (base-no-n c.args.file c.args.bytes.now kind-read no-n))
 
-pub read_dark-list-requires : goal.read_dark-list-requires
-read_dark-list-requires c =
+pub returns-in_err-r : goal.returns-in_err-r
+returns-in_err-r c =
+    let kind-read = was_read (read_kind c.args.file c.args.bytes.now) c.read_kind.ensures c.in_ok-kind.was in
+    let n-read = was_read (read_within 2 255 c.args.bytes.now _) c.read_within.ensures c.in_ok-n.was in
+    let no-r = was-refused (read_within 2 (min 5 _) c.args.bytes.now _) (rw (lower-five _ c.min.ensures) at c.read_within-2.ensures) c.in_err-r.was in
+    passed-on _ c.from_residual-in_err-r.ensures.1
+    ∙ sym (ap base_read (base-no-r c.args.file c.args.bytes.now kind-read n-read no-r))
+
+pub read_dark-requires : goal.read_dark-requires
+read_dark-requires c =
     let bytes = c.args.bytes.now in
-    let n-read = was_read (read_within 2 255 bytes _) c.read_within-second.ensures c.in-Value-second.is in
+    let n-read = was_read (read_within 2 255 bytes _) c.read_within.ensures c.in_ok-n.was in
     let (read, least, most) = read-of-read_within 2 255 bytes _ n-read in
     (omega arith, most)
 
-pub returns-in-Refused : goal.returns-in-Refused
-returns-in-Refused c =
-    let kind-read = was_read (read_kind c.args.file c.args.bytes.now) c.read_kind-first.ensures c.in-Value.is in
-    let n-read = was_read (read_within 2 255 c.args.bytes.now _) c.read_within-second.ensures c.in-Value-second.is in
-    let r-read = was_read (read_within 2 (min 5 _) c.args.bytes.now _) (rw c.smaller.ensures at c.read_within-third.ensures)
-    c.in-Value-third.is in
-    c.refuse-in-Refused.ensures
-    ∙ sym
-    (ap base_read
-    (list-refused c.args.file c.args.bytes.now kind-read n-read r-read c.read_dark-list.ensures c.in-Refused.is))
+pub returns-in_err-list : goal.returns-in_err-list
+returns-in_err-list c =
+    let kind-read = was_read (read_kind c.args.file c.args.bytes.now) c.read_kind.ensures c.in_ok-kind.was in
+    let n-read = was_read (read_within 2 255 c.args.bytes.now _) c.read_within.ensures c.in_ok-n.was in
+    let r-read = was_read (read_within 2 (min 5 _) c.args.bytes.now _) (rw (lower-five _ c.min.ensures) at c.read_within-2.ensures) c.in_ok-r.was in
+    let no-list = answered-err _ (read_dark _ _ c.args.bytes.now _) c.read_dark.ensures c.in_err-list.was in
+    passed-on _ c.from_residual-in_err-list.ensures.1
+    ∙ sym (ap base_read (base-no-list c.args.file c.args.bytes.now kind-read n-read r-read no-list))
 
 pub returns : goal.returns
 returns c =
-    let kind-read = was_read (read_kind c.args.file c.args.bytes.now) c.read_kind-first.ensures c.in-Value.is in
-    let n-read = was_read (read_within 2 255 c.args.bytes.now _) c.read_within-second.ensures c.in-Value-second.is in
-    let r-read = was_read (read_within 2 (min 5 _) c.args.bytes.now _) (rw c.smaller.ensures at c.read_within-third.ensures)
-    c.in-Value-third.is in
-    list-good c.args.file c.args.bytes.now kind-read n-read r-read c.read_dark-list.ensures c.in_default-list_verdict.is
+    let kind-read = was_read (read_kind c.args.file c.args.bytes.now) c.read_kind.ensures c.in_ok-kind.was in
+    let n-read = was_read (read_within 2 255 c.args.bytes.now _) c.read_within.ensures c.in_ok-n.was in
+    let r-read = was_read (read_within 2 (min 5 _) c.args.bytes.now _) (rw (lower-five _ c.min.ensures) at c.read_within-2.ensures) c.in_ok-r.was in
+    list-good c.args.file c.args.bytes.now kind-read n-read r-read c.read_dark.ensures c.in_ok-list.was

@@ -1,13 +1,12 @@
 -- `layers_code::check_rows` meets its contract: each return is a case of `check_rows`, over what the counting of rows, the test
 -- of their order, of the nodes out of service and the packing test ensure. Assumes nothing.
 use Prim.Native.Nat.{ℕ, ◌+◌, ◌*◌, ◌^◌, ◌≤◌, ◌<◌}
+use Rattle.std.specs.Prelude.{⊤, Result, Ok, Err}
 use native.Mathlib.Omega.{arith}
 use mathlib.Core.Path.{◌≡◌, sym, ap, ◌∙◌}
 use lib.ListN.{length, drop, get_or}
 use lib.Seq.{get_or-drop}
 use Rattle.refusal.specs.declared.Refusal.{Refusal}
-use Rattle.refusal.specs.declared.Verdict.{Verdict}
-use Rattle.refusal.specs.declared.Verdict.TheVariants.{Good, Refused}
 use Rattle.refusal.specs.Checked.{verdict}
 use Rattle.packing.specs.Rows.{rows_at}
 use Rattle.packing.specs.Load.{most}
@@ -18,7 +17,7 @@ use Rattle.layers_code.proofs.RowsAnswers.{rows_short, rows_long, rows-unordered
 use Rattle.layers_code.proofs.check_rows.Goals as goal
 
 -- an answer that refuses hands on no load
-refusing : {v w : Verdict} {e : Refusal} {X : Type 0} → v ≡ Refused e → Refused e ≡ w → (v ≡ w) × (v ≡ Good → X)
+refusing : {v w : Result ⊤ Refusal} {e : Refusal} {X : Type 0} → v ≡ Err e → Err e ≡ w → (v ≡ w) × (v ≡ Ok tt → X)
 refusing is why = (is ∙ why, λ good. absurd (let z : ◌≡◌ {A = ℕ} 0 1 = cc in omega arith))
 
 pub overflow_mul-end : goal.overflow_mul-end
@@ -39,19 +38,19 @@ pub check_order-order-requires : goal.check_order-order-requires
 check_order-order-requires c =
     record { r_in_bounds = omega (arith, (let ends-here : c.args.at + c.count_rows-rows.result * c.args.base.r ≡ length c.args.bytes.now = omega (arith, c.if-end-bytes.false, c.if-bytes-end.false) in ends-here)); c_le_rows = (omega (arith, c.first_size-c.ensures.1), omega (arith, c.requires.heads_bound), c.requires.layers_le_r.1) }
 
-pub returns-in-Refused : goal.returns-in-Refused
-returns-in-Refused c = let w = refusing c.refuse-in-Refused.ensures
+pub returns-in-Err : goal.returns-in-Err
+returns-in-Err c = let w = refusing c.refuse-in-Err.ensures
     (rows-unordered _ _ _ _ _ c.count_rows-rows.ensures ((let ends-here : c.args.at + c.count_rows-rows.result * c.args.base.r ≡ length c.args.bytes.now = omega (arith, c.if-end-bytes.false, c.if-bytes-end.false) in ends-here)) _
-    c.check_order-order.ensures.verdict_value c.in-Refused.is) in record { verdict_value = w.0; loaded = w.1 }
+    c.check_order-order.ensures.verdict_value c.in-Err.is) in record { verdict_value = w.0; loaded = w.1 }
 
 pub check_service-service-requires : goal.check_service-service-requires
 check_service-service-requires c =
     record { r_in_bounds = omega (arith, (let ends-here : c.args.at + c.count_rows-rows.result * c.args.base.r ≡ length c.args.bytes.now = omega (arith, c.if-end-bytes.false, c.if-bytes-end.false) in ends-here)); dark_fits = c.requires.dark_fits }
 
-pub returns-in-Refused-service : goal.returns-in-Refused-service
-returns-in-Refused-service c = let w = refusing c.refuse-in-Refused-service.ensures
+pub returns-in-Err-service : goal.returns-in-Err-service
+returns-in-Err-service c = let w = refusing c.refuse-in-Err-service.ensures
     (rows-dark _ _ _ _ _ c.count_rows-rows.ensures ((let ends-here : c.args.at + c.count_rows-rows.result * c.args.base.r ≡ length c.args.bytes.now = omega (arith, c.if-end-bytes.false, c.if-bytes-end.false) in ends-here)) _ c.check_order-order.ensures.verdict_value
-    c.in_default.is _ c.check_service-service.ensures c.in-Refused-service.is) in record { verdict_value = w.0; loaded = w.1 }
+    c.in_default.is _ c.check_service-service.ensures c.in-Err-service.is) in record { verdict_value = w.0; loaded = w.1 }
 
 pub returns-then-load-heads : goal.returns-then-load-heads
 returns-then-load-heads c =

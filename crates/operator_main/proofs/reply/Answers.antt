@@ -7,4 +7,4 @@ pub returns-in_default : goal.returns-in_default
 returns-in_default c = absurd (reply-not-refused _ c.operator_reply.ensures (into-enough _ _ _ c.requires) c.in_default.is)
 
 pub returns : goal.returns
-returns c = reply-written _ c.operator_reply.ensures (into-enough _ _ _ c.requires) c.in-Written.is
+returns c = reply-written _ c.operator_reply.ensures (into-enough _ _ _ c.requires) c.in-Ok.is

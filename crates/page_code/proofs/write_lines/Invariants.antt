@@ -1,8 +1,6 @@
 -- `page_code::write_lines` meets its contract. The loop's invariant: the first i lines stand at the front, and all else is as it
 -- was. Assumes nothing.
-use Prim.Native.Nat.{◌-◌, ◌≤◌}
 use mathlib.Core.Path.{◌≡◌}
-use lib.ListN.{length}
 use lib.Seq.{sets}
 use Rattle.page.specs.Asked.{line_at}
 use Rattle.page.proofs.Joined.{joined}
@@ -10,7 +8,4 @@ use Rattle.page_code.proofs.write_lines.Given as goal
 
 abbrev pub invariant-loop-i : goal.invariant-loop-i
 invariant-loop-i l =
-    (l.i ≤ l.b) × (length l.out ≡ length l.initial.out) × (l.out ≡ sets l.initial.out 0 (joined (line_at l.bytes l.first l.r l.layers) l.i))
-
-abbrev pub decreases-loop-i : goal.decreases-loop-i
-decreases-loop-i l = l.b - l.i
+    l.out ≡ sets l.initial.out 0 (joined (line_at l.bytes l.first l.r l.layers) l.i)

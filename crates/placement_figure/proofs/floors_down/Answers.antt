@@ -21,4 +21,4 @@ overflow_mul-result c =
     search rules
 
 pub returns : goal.returns
-returns c = floors-done _ _ _ _ _ _ (omega arith) c.loop-i.invariant c.loop-i-test.false
+returns c = floors-done _ _ _ _ _ _ (omega arith) c.loop-i.invariant (omega arith)

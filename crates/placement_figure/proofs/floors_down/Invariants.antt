@@ -5,6 +5,3 @@ use Rattle.placement_figure.proofs.floors_down.Given as goal
 
 abbrev pub invariant-loop-i : goal.invariant-loop-i
 invariant-loop-i l = FloorsTurn l.k l.s l.x l.lambda l.w l.i
-
-abbrev pub decreases-loop-i : goal.decreases-loop-i
-decreases-loop-i l = l.i

@@ -7,22 +7,22 @@ use Rattle.planner.proofs.Found.{PackFound, check-refused, check-accepted}
 use Rattle.planner_code.proofs.plan.Goals as goal
 
 pub slice_bounds-plan_pack-count : goal.slice_bounds-plan_pack-count
-slice_bounds-plan_pack-count c = omega (arith, ((let found-here : PackFound c.args.pack.now c.in-Accepted.head c.check_pack-checked.result.layers c.check_pack-checked.result.dark = check-accepted c.args.pack.now c.check_pack-checked.ensures c.in-Accepted.is in found-here)).inside)
+slice_bounds-plan_pack-count c = omega (arith, ((let found-here : PackFound c.args.pack.now c.in-Ok.head c.check_pack-checked.result.layers c.check_pack-checked.result.dark = check-accepted c.args.pack.now c.check_pack-checked.ensures c.in-Ok.is in found-here)).inside)
 
 pub slice_bounds-plan_pack-start : goal.slice_bounds-plan_pack-start
-slice_bounds-plan_pack-start c = omega (arith, ((let found-here : PackFound c.args.pack.now c.in-Accepted.head c.check_pack-checked.result.layers c.check_pack-checked.result.dark = check-accepted c.args.pack.now c.check_pack-checked.ensures c.in-Accepted.is in found-here)).inside)
+slice_bounds-plan_pack-start c = omega (arith, ((let found-here : PackFound c.args.pack.now c.in-Ok.head c.check_pack-checked.result.layers c.check_pack-checked.result.dark = check-accepted c.args.pack.now c.check_pack-checked.ensures c.in-Ok.is in found-here)).inside)
 
 pub plan_pack-requires : goal.plan_pack-requires
-plan_pack-requires c = ((let found-here : PackFound c.args.pack.now c.in-Accepted.head c.check_pack-checked.result.layers c.check_pack-checked.result.dark = check-accepted c.args.pack.now c.check_pack-checked.ensures c.in-Accepted.is in found-here)).held
+plan_pack-requires c = ((let found-here : PackFound c.args.pack.now c.in-Ok.head c.check_pack-checked.result.layers c.check_pack-checked.result.dark = check-accepted c.args.pack.now c.check_pack-checked.ensures c.in-Ok.is in found-here)).held
 
-pub returns-in-Refused : goal.returns-in-Refused
+pub returns-in-Err : goal.returns-in-Err
 unfolding plan
-returns-in-Refused c =
+returns-in-Err c =
     refused-done c.args.work.now c.args.out.now
-    (rw (check-refused c.args.pack.now c.check_pack-checked.ensures c.in-Refused.is))
+    (rw (check-refused c.args.pack.now c.check_pack-checked.ensures c.in-Err.is))
     c.refuse.ensures
 
-pub returns-in-Accepted : goal.returns-in-Accepted
+pub returns-in-Ok : goal.returns-in-Ok
 unfolding plan
-returns-in-Accepted c =
-    rw ((let found-here : PackFound c.args.pack.now c.in-Accepted.head c.check_pack-checked.result.layers c.check_pack-checked.result.dark = check-accepted c.args.pack.now c.check_pack-checked.ensures c.in-Accepted.is in found-here)).found c.plan_pack.ensures
+returns-in-Ok c =
+    rw ((let found-here : PackFound c.args.pack.now c.in-Ok.head c.check_pack-checked.result.layers c.check_pack-checked.result.dark = check-accepted c.args.pack.now c.check_pack-checked.ensures c.in-Ok.is in found-here)).found c.plan_pack.ensures

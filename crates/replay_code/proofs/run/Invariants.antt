@@ -8,9 +8,5 @@ use Rattle.replay_code.proofs.run.Given as goal
 
 abbrev pub invariant-loop-i : goal.invariant-loop-i
 invariant-loop-i l =
-    (l.i ≤ length l.events)
-    × Standing l.progress l.board
+    Standing l.progress l.board
     × (rest l.fn.start l.initial.board 0 l.events ≡ rest l.progress l.board l.i (drop l.i l.events))
-
-abbrev pub decreases-loop-i : goal.decreases-loop-i
-decreases-loop-i l = length l.events - l.i

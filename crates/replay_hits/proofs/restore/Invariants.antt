@@ -8,7 +8,4 @@ use Rattle.replay_hits.proofs.restore.Given as goal
 
 abbrev pub invariant-loop-seen : goal.invariant-loop-seen
 invariant-loop-seen l =
-    (l.seen ≤ l.count) × (length l.board ≡ 25_089) × Hit l.s l.b l.initial.board (lowered_to (index_of l.initial.board) (hits_of l.initial.board l.b) l.from l.seen) l.board l.left
-
-abbrev pub decreases-loop-seen : goal.decreases-loop-seen
-decreases-loop-seen l = l.count - l.seen
+    Hit l.s l.b l.initial.board (lowered_to (index_of l.initial.board) (hits_of l.initial.board l.b) l.from l.seen) l.board l.left

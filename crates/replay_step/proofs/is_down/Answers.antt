@@ -5,4 +5,4 @@ use borrow.Author.Tests.{lt-ltb}
 use Rattle.replay_step.proofs.is_down.Goals as goal
 
 pub returns : goal.returns
-returns c = rw (lt-ltb c.args.node.0 256 (omega (arith, c.struct_known-1.given))) refl
+returns c = rw (c.from.ensures, lt-ltb c.args.node.0 256 (omega arith)) refl

@@ -17,19 +17,19 @@ change-left-requires c =
     let runs = sym c.is_running.ensures ∙ c.if-not-is_running.false in
     let p = c.args.progress in
     let counting = step-counting p c.args.board.now c.args.i e c.requires runs in
-    let good = good-event p.n c.args.i p.time (down_of c.args.board.now) e (sym c.in-Good.is ∙ c.check_event-checked.ensures) in
+    let good = good-event p.n c.args.i p.time (down_of c.args.board.now) e (sym c.in-Ok.is ∙ c.check_event-checked.ensures) in
     record { board_len = (c.requires.long, omega (arith, good.below, counting.n-most)); counting = counting; node_value = (good.was-up, good.was-down) }
 
-pub returns-in-Refused : goal.returns-in-Refused
-returns-in-Refused c =
+pub returns-in-Err : goal.returns-in-Err
+returns-in-Err c =
     let runs = sym c.is_running.ensures ∙ c.if-not-is_running.false in
-    step-refused _ _ _ _ c.requires runs (sym c.in-Refused.is ∙ c.check_event-checked.ensures)
+    step-refused _ _ _ _ c.requires runs (sym c.in-Err.is ∙ c.check_event-checked.ensures)
 
-pub shape_of-board-in-Good : goal.shape_of-board-in-Good
-shape_of-board-in-Good c = c.board-1.given
+pub shape_of-board-in-Ok : goal.shape_of-board-in-Ok
+shape_of-board-in-Ok c = c.board-1.given
 
-pub returns-in-Good : goal.returns-in-Good
-returns-in-Good c =
+pub returns-in-Ok : goal.returns-in-Ok
+returns-in-Ok c =
     let runs = sym c.is_running.ensures ∙ c.if-not-is_running.false in
-    step-moved _ _ _ _ c.requires runs (sym c.in-Good.is ∙ c.check_event-checked.ensures)
+    step-moved _ _ _ _ c.requires runs (sym c.in-Ok.is ∙ c.check_event-checked.ensures)
     c.change-left.ensures c.lowered-low.ensures

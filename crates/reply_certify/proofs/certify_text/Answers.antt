@@ -2,11 +2,11 @@
 use Rattle.reply_certify.proofs.Certified.{certify-planned, certify-refused}
 use Rattle.reply_certify.proofs.certify_text.Goals as goal
 
-pub returns-in-Planned : goal.returns-in-Planned
-returns-in-Planned c =
-    certify-planned c.args.bare.now c.requires c.certify-result.ensures c.in-Planned.is
+pub returns-in-Ok : goal.returns-in-Ok
+returns-in-Ok c =
+    certify-planned c.args.bare.now c.requires c.certify-result.ensures c.in-Ok.is
 
-pub returns-in-Refused : goal.returns-in-Refused
-returns-in-Refused c =
-    certify-refused c.args.bare.now c.requires c.certify-result.ensures c.in-Refused.is
+pub returns-in-Err : goal.returns-in-Err
+returns-in-Err c =
+    certify-refused c.args.bare.now c.requires c.certify-result.ensures c.in-Err.is
     c.refused_line.ensures

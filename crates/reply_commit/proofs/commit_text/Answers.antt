@@ -2,11 +2,11 @@
 use Rattle.reply_commit.proofs.Plans.{commit-planned, commit-refused}
 use Rattle.reply_commit.proofs.commit_text.Goals as goal
 
-pub returns-in-Planned : goal.returns-in-Planned
-returns-in-Planned c =
-    commit-planned c.args.pack.now c.args.order _ c.requires c.commit-result.ensures c.in-Planned.is
+pub returns-in-Ok : goal.returns-in-Ok
+returns-in-Ok c =
+    commit-planned c.args.pack.now c.args.order _ c.requires c.commit-result.ensures c.in-Ok.is
 
-pub returns-in-Refused : goal.returns-in-Refused
-returns-in-Refused c =
-    commit-refused c.args.pack.now c.args.order _ c.requires c.commit-result.ensures c.in-Refused.is
+pub returns-in-Err : goal.returns-in-Err
+returns-in-Err c =
+    commit-refused c.args.pack.now c.args.order _ c.requires c.commit-result.ensures c.in-Err.is
     c.refused_line.ensures

@@ -5,9 +5,6 @@ use Rattle.reply_curve.proofs.put_figures.Goals as goal
 pub loop-i-init : goal.loop-i-init
 loop-i-init c = figures-hold _ _ _
 
-pub overflow_cast-figure : goal.overflow_cast-figure
-overflow_cast-figure c = omega (arith, c.type_inv.figures c.loop-i.i)
-
 pub put_numbers-place-requires : goal.put_numbers-place-requires
 put_numbers-place-requires c =
     omega (arith, figures-fit c.loop-i.invariant c.requires.figures_len_bound c.requires.curve_needed_in_bounds c.loop-i-test.true)
@@ -15,7 +12,7 @@ put_numbers-place-requires c =
 pub loop-i-preserved : goal.loop-i-preserved
 loop-i-preserved c =
     figures-again c.loop-i.invariant c.requires.figures_len_bound c.requires.curve_needed_in_bounds c.loop-i-test.true _ _ c.put_numbers-place.auto.out
-    c.put_numbers-place.ensures
+    (rw c.from.ensures at c.put_numbers-place.ensures)
 
 pub shape_of-out : goal.shape_of-out
 shape_of-out c = c.loop-i.invariant.same_length

@@ -2,8 +2,8 @@
 use mathlib.Core.Path.{refl}
 use Rattle.reply_join.proofs.tell.Goals as goal
 
-pub returns-in-Written : goal.returns-in-Written
-returns-in-Written c = rw c.in-Written.is (refl, refl)
+pub returns-in-Ok : goal.returns-in-Ok
+returns-in-Ok c = rw c.in-Ok.is (refl, refl)
 
-pub returns-in-Refused : goal.returns-in-Refused
-returns-in-Refused c = rw c.in-Refused.is c.refused_line.ensures
+pub returns-in-Err : goal.returns-in-Err
+returns-in-Err c = rw c.in-Err.is c.refused_line.ensures

@@ -2,10 +2,10 @@
 use Rattle.reply_operator.proofs.Plans.{operator-planned, operator-refused}
 use Rattle.reply_operator.proofs.planned.Goals as goal
 
-pub returns-in-Planned : goal.returns-in-Planned
-returns-in-Planned c =
-    operator-planned c.args.pack.now c.args.order c.requires.work_most_in_bounds c.requires.output_most_in_bounds c.plan_operator-result.ensures c.in-Planned.is
+pub returns-in-Ok : goal.returns-in-Ok
+returns-in-Ok c =
+    operator-planned c.args.pack.now c.args.order c.requires.work_most_in_bounds c.requires.output_most_in_bounds c.plan_operator-result.ensures c.in-Ok.is
 
-pub returns-in-Refused : goal.returns-in-Refused
-returns-in-Refused c =
-    operator-refused c.args.pack.now c.args.order c.requires.work_most_in_bounds c.requires.output_most_in_bounds c.plan_operator-result.ensures c.in-Refused.is c.refused_line.ensures
+pub returns-in-Err : goal.returns-in-Err
+returns-in-Err c =
+    operator-refused c.args.pack.now c.args.order c.requires.work_most_in_bounds c.requires.output_most_in_bounds c.plan_operator-result.ensures c.in-Err.is c.refused_line.ensures

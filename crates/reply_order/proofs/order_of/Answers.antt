@@ -2,8 +2,8 @@
 use Rattle.reply_order.proofs.Orders.{order-refused, order-accepted}
 use Rattle.reply_order.proofs.order_of.Goals as goal
 
-pub returns-in-Refused : goal.returns-in-Refused
-returns-in-Refused c = order-refused _ c.check_placement-check.ensures c.in-Refused.is _
+pub returns-in-Err : goal.returns-in-Err
+returns-in-Err c = order-refused _ c.check_placement-check.ensures c.in-Err.is _
 
-pub returns-in-Accepted : goal.returns-in-Accepted
-returns-in-Accepted c = order-accepted _ c.check_placement-check.ensures c.in-Accepted.is
+pub returns-in-Ok : goal.returns-in-Ok
+returns-in-Ok c = order-accepted _ c.check_placement-check.ensures c.in-Ok.is

@@ -4,16 +4,16 @@ use Rattle.reply_replay.proofs.replay_text.Goals as goal
 
 pub replay_first-answer-requires : goal.replay_first-answer-requires
 replay_first-answer-requires c =
-    whole-most c.args.log.now c.read_log-read.result c.read_log-read.ensures c.in-Whole.is
+    whole-most c.args.log.now c.read_log-read.result c.read_log-read.ensures c.in-Ok.is
 
-pub returns-in-Refused : goal.returns-in-Refused
-returns-in-Refused c =
-    rw (unread-text c.args.log.now c.read_log-read.result c.read_log-read.ensures c.in-Refused.is c.args.placement.now) c.unread_line.ensures
+pub returns-in-Err : goal.returns-in-Err
+returns-in-Err c =
+    rw (unread-text c.args.log.now c.read_log-read.result c.read_log-read.ensures c.in-Err.is c.args.placement.now) c.unread_line.ensures
 
-pub returns-in-Whole : goal.returns-in-Whole
-returns-in-Whole c =
+pub returns-in-Ok : goal.returns-in-Ok
+returns-in-Ok c =
     rw (
-      whole-text c.args.log.now c.read_log-read.result c.read_log-read.ensures c.in-Whole.is c.args.placement.now,
+      whole-text c.args.log.now c.read_log-read.result c.read_log-read.ensures c.in-Ok.is c.args.placement.now,
       ← c.replay_first-answer.ensures,
     )
     c.lowest_line.ensures

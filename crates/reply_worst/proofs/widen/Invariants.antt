@@ -1,5 +1,4 @@
 -- `reply_worst::widen` meets its contract. The loop's invariant: the nodes so far stand at the start. Assumes nothing.
-use Prim.Native.Nat.{◌≤◌, ◌-◌}
 use mathlib.Core.Path.{◌≡◌}
 use mathlib.Core.List.{◌++◌}
 use lib.ListN.{length, take, drop}
@@ -7,7 +6,4 @@ use Rattle.reply_worst.proofs.widen.Given as goal
 
 abbrev pub invariant-loop-i : goal.invariant-loop-i
 invariant-loop-i l =
-    (l.i ≤ length l.nodes) × (length l.numbers ≡ length l.initial.numbers) × (l.numbers ≡ take l.i l.nodes ++ drop l.i l.initial.numbers)
-
-abbrev pub decreases-loop-i : goal.decreases-loop-i
-decreases-loop-i l = length l.nodes - l.i
+    (length l.numbers ≡ length l.initial.numbers) × (l.numbers ≡ take l.i l.nodes ++ drop l.i l.initial.numbers)

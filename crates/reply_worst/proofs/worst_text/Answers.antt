@@ -4,17 +4,17 @@ use Rattle.reply_worst.proofs.worst_text.Goals as goal
 
 pub slice_bounds-put_set-end : goal.slice_bounds-put_set-end
 slice_bounds-put_set-end c =
-    (worst-found _ _ c.worst_case-answer.ensures c.order_of-order.ensures c.in-Fewest.is).inside
+    (worst-found _ _ c.worst_case-answer.ensures c.order_of-order.ensures c.in-Ok.is).inside
 
 pub put_set-requires : goal.put_set-requires
 put_set-requires c =
-    let found = worst-found _ _ c.worst_case-answer.ensures c.order_of-order.ensures c.in-Fewest.is in
+    let found = worst-found _ _ c.worst_case-answer.ensures c.order_of-order.ensures c.in-Ok.is in
     record { nodes_len_bound = found.few; worst_needed_in_bounds = c.requires }
 
-pub returns-in-Refused : goal.returns-in-Refused
-returns-in-Refused c =
-    rw (worst-refused _ _ c.worst_case-answer.ensures c.in-Refused.is) c.refused_line.ensures
+pub returns-in-Err : goal.returns-in-Err
+returns-in-Err c =
+    rw (worst-refused _ _ c.worst_case-answer.ensures c.in-Err.is) c.refused_line.ensures
 
-pub returns-in-Fewest : goal.returns-in-Fewest
-returns-in-Fewest c =
-    rw (worst-found _ _ c.worst_case-answer.ensures c.order_of-order.ensures c.in-Fewest.is).text c.put_set.ensures
+pub returns-in-Ok : goal.returns-in-Ok
+returns-in-Ok c =
+    rw (worst-found _ _ c.worst_case-answer.ensures c.order_of-order.ensures c.in-Ok.is).text c.put_set.ensures

@@ -1,5 +1,6 @@
 -- The line of `check`, from the answer of the placement's check. Assumes nothing.
 use Prim.Native.Nat.{ℕ, ◌+◌, ◌*◌, ◌≤◌}
+use Rattle.std.specs.Prelude.{Result, Ok, Err}
 use native.Mathlib.Omega.{arith}
 use mathlib.Core.Path.{◌≡◌, refl, sym, ◌∙◌, ap, subst}
 use mathlib.Core.List.{List}
@@ -15,8 +16,6 @@ use Rattle.layers.specs.Layers.{Located, all_rows}
 use Rattle.placement.specs.Placement.{Placement, read_placement, check_placement}
 use Rattle.placement.specs.Answers.{placement_head, placement_checked}
 use Rattle.placement.specs.declared.PlacementHead.{PlacementHead}
-use Rattle.placement.specs.declared.PlacementAnswer.{PlacementAnswer}
-use Rattle.placement.specs.declared.PlacementAnswer.TheVariants.{Accepted, Refused}
 use Rattle.placement.specs.declared.PlacementCheck.{PlacementCheck}
 use Rattle.placement.proofs.Rows.{rows_in}
 use Rattle.report.specs.Load.{mean}
@@ -62,11 +61,11 @@ line-of-accepted input file e =
 
 -- what the code's answer says
 module _ (input : List ℕ) (check : PlacementCheck) (is : check ≡ placement_checked (read_placement input)) where
-  answered : {answer : PlacementAnswer} (o : Checked (Located Placement)) → check.answer ≡ answer → read_placement input ≡ o
+  answered : {answer : Result PlacementHead Refusal} (o : Checked (Located Placement)) → check.answer ≡ answer → read_placement input ≡ o
       → answer ≡ (placement_checked o).answer
   answered o a e = sym a ∙ ap (λ check. check.answer) (is ∙ ap placement_checked e)
 
-  pub line-of-check : {head : PlacementHead} → check.answer ≡ Accepted head → LineOf input head
+  pub line-of-check : {head : PlacementHead} → check.answer ≡ Ok head → LineOf input head
   line-of-check {head} a = go (read_placement input) refl
     where
       go : (o : Checked (Located Placement)) → read_placement input ≡ o → LineOf input head
@@ -76,7 +75,7 @@ module _ (input : List ℕ) (check : PlacementCheck) (is : check ≡ placement_c
           subst (LineOf input) head-is (line-of-accepted input file e)
       go (refused why) e = let same = answered (refused why) a e in absurd (let z : ◌≡◌ {A = ℕ} 0 1 = cc in omega arith)
 
-  pub refused-of-check : {why : Refusal} → check.answer ≡ Refused why → check_line input ≡ refused_line why
+  pub refused-of-check : {why : Refusal} → check.answer ≡ Err why → check_line input ≡ refused_line why
   unfolding check_line check_placement
   refused-of-check {why} a = go (read_placement input) refl
     where

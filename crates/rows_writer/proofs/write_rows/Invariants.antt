@@ -5,7 +5,7 @@ use Rattle.rows_writer.proofs.Runs.{Run}
 use Rattle.rows_writer.proofs.write_rows.Given as goal
 
 abbrev pub invariant-loop-written : goal.invariant-loop-written
-invariant-loop-written l = Run l.initial.out l.blocks l.m l.r l.c l.out l.written
+invariant-loop-written l = Run l.fn.out l.blocks l.m l.r l.c l.out l.written
 
 abbrev pub decreases-loop-written : goal.decreases-loop-written
 decreases-loop-written l = l.c - l.written

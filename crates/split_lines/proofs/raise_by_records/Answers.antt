@@ -1,13 +1,6 @@
 -- `split_lines::raise_by_records` meets its contract: where records are of no use, the line below is the line. Assumes nothing.
-use Rattle.split_lines.proofs.Raising.{lent-eq, length-lent}
 use Rattle.split_lines.proofs.Gentle.{raised-gentle}
 use Rattle.split_lines.proofs.raise_by_records.Goals as goal
-
-pub is_gentle-requires : goal.is_gentle-requires
-is_gentle-requires c =
-    let p = c.requires in
-    let below = p.1 in
-    (p.0, rw (length-lent below) below.small, rw (lent-eq below) below.rising)
 
 pub returns-then-is_gentle : goal.returns-then-is_gentle
 returns-then-is_gentle c =

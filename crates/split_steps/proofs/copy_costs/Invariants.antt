@@ -1,5 +1,4 @@
 -- `split_steps::copy_costs` meets its contract. The loop's invariant: the costs before place `d` are stored. Assumes nothing.
-use Prim.Native.Nat.{◌+◌, ◌-◌, ◌≤◌}
 use mathlib.Core.Path.{◌≡◌}
 use lib.ListN.{replicate}
 use Rattle.split.specs.Table.{copies_lose}
@@ -8,7 +7,4 @@ use Rattle.split_steps.proofs.copy_costs.Given as goal
 
 abbrev pub invariant-loop-d : goal.invariant-loop-d
 invariant-loop-d l =
-    (l.d ≤ l.period + 1) × (l.costs ≡ stored_to 0 (replicate 121 0) (copies_lose l.s l.k l.x l.bound) l.d)
-
-abbrev pub decreases-loop-d : goal.decreases-loop-d
-decreases-loop-d l = l.period + 1 - l.d
+    l.costs ≡ stored_to 0 (replicate 121 0) (copies_lose l.s l.k l.x l.bound) l.d

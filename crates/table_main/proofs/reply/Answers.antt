@@ -8,4 +8,4 @@ pub returns-in_default : goal.returns-in_default
 returns-in_default c = absurd (reply-not-refused _ c.table_reply.ensures (into-enough table_most (table_reply c.args.input.now) _ c.requires) c.in_default.is)
 
 pub returns : goal.returns
-returns c = reply-written _ c.table_reply.ensures (into-enough table_most (table_reply c.args.input.now) _ c.requires) c.in-Written.is
+returns c = reply-written _ c.table_reply.ensures (into-enough table_most (table_reply c.args.input.now) _ c.requires) c.in-Ok.is

@@ -2,6 +2,7 @@
 -- numbers ensure. Assumes nothing.
 use Prim.Native.Nat.{◌-◌}
 use mathlib.Core.Path.{sym, ◌∙◌, ap}
+use Rattle.refusal.proofs.Answered.{passed-on}
 use Rattle.number.specs.Numbers.{read_within}
 use Rattle.number.proofs.Within.{was_read, was-refused}
 use Rattle.layers.specs.Answers.{site_of}
@@ -9,36 +10,42 @@ use Rattle.placement.specs.Answers.{terms_read}
 use Rattle.terms_code.proofs.Cases.{no-s, no-k, no-b, no-figure, all_read}
 use Rattle.terms_code.proofs.read_terms.Goals as goal
 
-pub returns-in_default : goal.returns-in_default
-returns-in_default c =
+pub returns-in_err-s : goal.returns-in_err-s
+returns-in_err-s c =
     let a = c.args in
-    let none = was-refused (read_within 1 a.base.r a.bytes.now a.at) c.read_within-first.ensures
-    c.in_default.is c.refusal_of.ensures in
-    c.refuse.ensures ∙ sym (ap terms_read (no-s (site_of a.base) a.bytes.now a.at none))
+    let none = was-refused (read_within 1 a.base.r a.bytes.now a.at) c.read_within.ensures c.in_err-s.was in
+    passed-on _ c.from_residual.ensures.1 ∙ sym (ap terms_read (no-s (site_of a.base) a.bytes.now a.at none))
 
-pub returns-in_default-second : goal.returns-in_default-second
-returns-in_default-second c =
+pub returns-in_err-k : goal.returns-in_err-k
+returns-in_err-k c =
     let a = c.args in
-    let none = was-refused (read_within _ (a.base.n - 1) a.bytes.now _) c.read_within-second.ensures
-    c.in_default-second.is c.refusal_of-in_default-second.ensures in
-    c.refuse-in_default-second.ensures ∙ sym (ap terms_read (no-k (site_of a.base) a.bytes.now a.at ((was_read _ c.read_within-first.ensures c.in-Value.is)) none))
+    let s = was_read _ c.read_within.ensures c.in_ok-s.was in
+    let none = was-refused (read_within _ (a.base.n - 1) a.bytes.now _) c.read_within-2.ensures c.in_err-k.was in
+    passed-on _ c.from_residual-in_err-k.ensures.1 ∙ sym (ap terms_read (no-k (site_of a.base) a.bytes.now a.at s none))
 
-pub returns-in_default-third : goal.returns-in_default-third
-returns-in_default-third c =
+pub returns-in_err-b : goal.returns-in_err-b
+returns-in_err-b c =
     let a = c.args in
-    let none = was-refused (read_within 1 4_096 a.bytes.now _) c.read_within-third.ensures
-    c.in_default-third.is c.refusal_of-in_default-third.ensures in
-    c.refuse-in_default-third.ensures ∙ sym (ap terms_read (no-b (site_of a.base) a.bytes.now a.at ((was_read _ c.read_within-first.ensures c.in-Value.is)) ((was_read _ c.read_within-second.ensures c.in-Value-second.is)) none))
+    let s = was_read _ c.read_within.ensures c.in_ok-s.was in
+    let k = was_read _ c.read_within-2.ensures c.in_ok-k.was in
+    let none = was-refused (read_within 1 4_096 a.bytes.now _) c.read_within-3.ensures c.in_err-b.was in
+    passed-on _ c.from_residual-in_err-b.ensures.1 ∙ sym (ap terms_read (no-b (site_of a.base) a.bytes.now a.at s k none))
 
-pub returns-in_default-fourth : goal.returns-in_default-fourth
-returns-in_default-fourth c =
+pub returns-in_err-figure : goal.returns-in_err-figure
+returns-in_err-figure c =
     let a = c.args in
-    let none = was-refused (read_within 0 _ a.bytes.now _) c.read_within-fourth.ensures
-    c.in_default-fourth.is c.refusal_of-in_default-fourth.ensures in
-    c.refuse-in_default-fourth.ensures ∙ sym (ap terms_read (no-figure (site_of a.base) a.bytes.now a.at ((was_read _ c.read_within-first.ensures c.in-Value.is)) ((was_read _ c.read_within-second.ensures c.in-Value-second.is)) ((was_read _ c.read_within-third.ensures c.in-Value-third.is)) none))
+    let s = was_read _ c.read_within.ensures c.in_ok-s.was in
+    let k = was_read _ c.read_within-2.ensures c.in_ok-k.was in
+    let b = was_read _ c.read_within-3.ensures c.in_ok-b.was in
+    let none = was-refused (read_within 0 _ a.bytes.now _) c.read_within-4.ensures c.in_err-figure.was in
+    passed-on _ c.from_residual-in_err-figure.ensures.1
+    ∙ sym (ap terms_read (no-figure (site_of a.base) a.bytes.now a.at s k b none))
 
 pub returns : goal.returns
 returns c =
     let a = c.args in
-    let figure-read = was_read (read_within 0 _ a.bytes.now _) c.read_within-fourth.ensures c.in-Value-fourth.is in
-    sym (ap terms_read (all_read (site_of a.base) a.bytes.now a.at ((was_read _ c.read_within-first.ensures c.in-Value.is)) ((was_read _ c.read_within-second.ensures c.in-Value-second.is)) ((was_read _ c.read_within-third.ensures c.in-Value-third.is)) figure-read))
+    let s = was_read _ c.read_within.ensures c.in_ok-s.was in
+    let k = was_read _ c.read_within-2.ensures c.in_ok-k.was in
+    let b = was_read _ c.read_within-3.ensures c.in_ok-b.was in
+    let figure = was_read (read_within 0 _ a.bytes.now _) c.read_within-4.ensures c.in_ok-figure.was in
+    sym (ap terms_read (all_read (site_of a.base) a.bytes.now a.at s k b figure))

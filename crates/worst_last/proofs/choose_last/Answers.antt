@@ -20,7 +20,7 @@ returns-then-least-usable c =
     let index = c.args.index.now in
     let count = ap (λ (e : Entries). e.count) c.entries_of-entries.ensures in
     let le = lost_to-le c.args.search.s index c.args.hits.now (begin index c.args.search.next.0) (size index c.args.search.next.0) in
-    last-same c.requires.searching _ refl c.requires.chosen_value (omega (arith, c.if-least-usable.true, c.smaller-most.ensures, count, le))
+    last-same c.requires.searching _ refl c.requires.chosen_value (omega (arith, c.if-least-usable.true, c.min-most.ensures, count, le))
 
 pub lose-requires : goal.lose-requires
 lose-requires c = to-lose c.requires.searching c.entries_of-entries.ensures

@@ -1,14 +1,10 @@
 -- `worst_rest::lower_rest` meets its contract. The loop's invariant: the hits are those of the first `place` nodes of the set.
 -- Assumes nothing.
 use Prim.Native.Nat.{◌≤◌}
-use mathlib.Core.Path.{◌≡◌}
 use lib.ListN.{length, take}
 use Rattle.worst.specs.Records.{HitsOf}
 use Rattle.worst_rest.proofs.lower_rest.Given as goal
 
 abbrev pub invariant-loop-place : goal.invariant-loop-place
 invariant-loop-place l =
-    (l.chosen ≤ l.place) × (l.place ≤ l.k) × (length l.hits ≡ length l.initial.hits) × HitsOf l.index (take l.place l.set) (length l.initial.hits) l.hits
-
-abbrev pub decreases-loop-place : goal.decreases-loop-place
-decreases-loop-place l = l.place
+    (l.chosen ≤ l.place) × HitsOf l.index (take l.place l.set) (length l.initial.hits) l.hits

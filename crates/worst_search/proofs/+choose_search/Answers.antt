@@ -2,7 +2,8 @@ use Rattle.worst.proofs.Going.{going_start, going_end, going_next}
 use Rattle.worst.proofs.Kept.{next-kept}
 use Rattle.worst.proofs.Steps.{next-ordered, to-raise, usable-few, to-search, to-lower, chosen_more}
 use lib.ListN.{length-set}
-use mathlib.Core.Path.{refl, ◌∙◌}
+use mathlib.Core.Path.{◌≡◌, refl, ◌∙◌}
+use Prim.Native.Nat.{◌-◌}
 use native.Mathlib.Omega.{arith}
 use Rattle.worst_search.proofs.+choose_search.Goals as goal
 
@@ -66,69 +67,43 @@ search-last_two-requires t c =
 pub search-returns-then-more-eq2 : goal.search-returns-then-more-eq2
 search-returns-then-more-eq2 t c = c.last_two.ensures
 
-pub search-loop-v-init : goal.search-loop-v-init
-search-loop-v-init t c = (omega arith, going_start c.requires.searching)
+pub search-overflow_cast-last : goal.search-overflow_cast-last
+search-overflow_cast-last t c = omega (arith, c.requires.searching.n-most)
 
-pub search-overflow_sub-n : goal.search-overflow_sub-n
-search-overflow_sub-n t c = omega (arith, c.loop-v.invariant.1.here.below)
+pub search-loop-v-init : goal.search-loop-v-init
+search-loop-v-init t c = going_start c.requires.searching
+
+pub search-choose-least-requires : goal.search-choose-least-requires
+search-choose-least-requires t c =
+    let p = c.loop-v.invariant.here in
+    (omega (arith, c.decreases, p.below), (p, (c.requires.light, omega (arith, p.more, c.if-more-eq1.false, c.if-more-eq2.false))))
+
+pub search-loop-v-preserved : goal.search-loop-v-preserved
+search-loop-v-preserved t c =
+    let one = c.choose-least in
+    going_next c.loop-v.invariant one.ensures one.auto.hits one.auto.set one.auto.out (λ e. omega (arith, c.loop-v.invariant.here.more))
 
 pub search-keeps-requires : goal.search-keeps-requires
 search-keeps-requires t c =
-    let p = c.loop-v.invariant.1.here in
-    record { index = (p.is-index, c.requires.light); next_bound = (omega (arith, p.below, p.n-most), p.more, p.k-most) }
-
-pub search-shape_of-hits-then-keeps : goal.search-shape_of-hits-then-keeps
-search-shape_of-hits-then-keeps t c = c.loop-v.invariant.1.same-hits
-
-pub search-shape_of-set-then-keeps : goal.search-shape_of-set-then-keeps
-search-shape_of-set-then-keeps t c = c.loop-v.invariant.1.same-nodes
-
-pub search-shape_of-out-then-keeps : goal.search-shape_of-out-then-keeps
-search-shape_of-out-then-keeps t c = c.loop-v.invariant.1.same_out
+    let e : c.loop-v.v ≡ c.args.search.n - (c.args.search.k - c.args.search.chosen) = omega (arith, c.requires.searching.enough, c.requires.searching.more) in
+    let g = rw e at c.loop-v.invariant in
+    record { index = (g.here.is-index, c.requires.light); next_bound = (omega (arith, g.here.below, g.here.n-most), g.here.more, g.here.k-most) }
 
 -- the one set that is left leaves no fewer
 pub search-returns-then-keeps : goal.search-returns-then-keeps
 search-returns-then-keeps t c =
-    let g = c.loop-v.invariant.1 in
-    going_end g (next-kept g.here c.requires.light (c.keeps.ensures c.if-keeps.true)) refl
-    c.if-n-v.true
+    let e : c.loop-v.v ≡ c.args.search.n - (c.args.search.k - c.args.search.chosen) = omega (arith, c.requires.searching.enough, c.requires.searching.more) in
+    let g = rw e at c.loop-v.invariant in
+    going_end g (next-kept g.here c.requires.light (c.keeps.ensures c.if-keeps.true)) refl (omega (arith, g.here.more, g.here.enough))
 
 pub search-choose_rest-requires : goal.search-choose_rest-requires
 search-choose_rest-requires t c =
-    record { searching = c.loop-v.invariant.1.here; next_value = c.if-n-v.true }
+    let e : c.loop-v.v ≡ c.args.search.n - (c.args.search.k - c.args.search.chosen) = omega (arith, c.requires.searching.enough, c.requires.searching.more) in
+    let g = rw e at c.loop-v.invariant in
+    record { searching = g.here; next_value = omega (arith, g.here.more, g.here.enough) }
 
-pub search-shape_of-hits-then-n-v : goal.search-shape_of-hits-then-n-v
-search-shape_of-hits-then-n-v t c =
-    c.choose_rest.auto.hits ∙ c.loop-v.invariant.1.same-hits
-
-pub search-shape_of-set-then-n-v : goal.search-shape_of-set-then-n-v
-search-shape_of-set-then-n-v t c =
-    c.choose_rest.auto.set ∙ c.loop-v.invariant.1.same-nodes
-
-pub search-shape_of-out-then-n-v : goal.search-shape_of-out-then-n-v
-search-shape_of-out-then-n-v t c =
-    c.choose_rest.auto.out ∙ c.loop-v.invariant.1.same_out
-
-pub search-returns-then-n-v : goal.search-returns-then-n-v
-search-returns-then-n-v t c =
-    c.loop-v.invariant.1.onward _ _ _ _ c.choose_rest.ensures
-
-pub search-choose-least-requires : goal.search-choose-least-requires
-search-choose-least-requires t c =
-    let p = c.loop-v.invariant.1.here in
-    (omega (arith, c.decreases, c.loop-v.invariant.0), (p, (c.requires.light, omega (arith, p.more, c.if-more-eq1.false, c.if-more-eq2.false))))
-
-pub search-overflow_add-v : goal.search-overflow_add-v
-search-overflow_add-v t c =
-    let p = c.loop-v.invariant.1.here in
-    omega (arith, p.below, p.n-most)
-
-pub search-loop-v-smaller : goal.search-loop-v-smaller
-search-loop-v-smaller t c = omega (arith, c.loop-v.invariant.1.here.below)
-
-pub search-loop-v-preserved : goal.search-loop-v-preserved
-search-loop-v-preserved t c = (
-  omega (arith, c.loop-v.invariant.0),
-  going_next c.loop-v.invariant.1 c.choose-least.ensures c.choose-least.auto.hits c.choose-least.auto.set c.choose-least.auto.out
-      c.if-n-v.false,
-)
+pub search-returns : goal.search-returns
+search-returns t c =
+    let e : c.loop-v.v ≡ c.args.search.n - (c.args.search.k - c.args.search.chosen) = omega (arith, c.requires.searching.enough, c.requires.searching.more) in
+    let g = rw e at c.loop-v.invariant in
+    g.onward _ _ _ _ c.choose_rest.ensures

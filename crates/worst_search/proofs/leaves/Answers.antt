@@ -6,9 +6,9 @@ use lib.Dec.{leb}
 use Rattle.worst_search.proofs.leaves.Goals as goal
 
 pub overflow_sub-result : goal.overflow_sub-result
-overflow_sub-result c = omega (arith, c.smaller.ensures)
+overflow_sub-result c = omega (arith, c.min.ensures)
 
 pub returns : goal.returns
 returns c =
-    let same : c.args.usable - c.smaller.result ≡ c.args.usable - c.args.loss = omega (arith, c.smaller.ensures) in
+    let same : c.args.usable - c.min.result ≡ c.args.usable - c.args.loss = omega (arith, c.min.ensures) in
     ap (leb c.args.least) same

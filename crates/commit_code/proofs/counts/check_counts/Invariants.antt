@@ -5,7 +5,4 @@ use Rattle.commit.proofs.Counting.{Counted}
 use Rattle.commit_code.proofs.counts.check_counts.Given as goal
 
 abbrev pub invariant-loop-x : goal.invariant-loop-x
-invariant-loop-x l = (l.x ≤ 5) × Counted l.layers l.s l.b l.counts l.x l.left
-
-abbrev pub decreases-loop-x : goal.decreases-loop-x
-decreases-loop-x l = 5 - l.x
+invariant-loop-x l = Counted l.layers l.s l.b l.counts l.x l.left

@@ -23,7 +23,4 @@ pub record Linking (rows heads₀ counts₀ next₀ : List ℕ) (from to : ℕ) 
 
 abbrev pub invariant-loop-f : goal.invariant-loop-f
 invariant-loop-f l =
-    Linking l.rows l.initial.heads l.initial.counts l.initial.next l.from l.to l.heads l.counts l.next l.f l.longest
-
-abbrev pub decreases-loop-f : goal.decreases-loop-f
-decreases-loop-f l = l.to - l.f
+    Linking l.rows l.initial.heads l.initial.counts l.initial.next l.fn.span.from l.fn.span.to l.heads l.counts l.next l.f l.longest

@@ -1,10 +1,10 @@
 use Prim.Native.Nat.{◌+◌, ◌*◌, ◌-◌, ◌≤◌}
+use Rattle.std.specs.Prelude.{Err}
 use native.Mathlib.Omega.{arith}
 use mathlib.Core.Path.{◌≡◌, refl, ◌∙◌, ap}
 use lib.ListN.{length, take, drop, get_or, length-drop}
 use Rattle.lists.proofs.Writing.{take-drop-rest}
 use Rattle.refusal.specs.declared.Refusal.TheVariants.{Crowded}
-use Rattle.refusal.specs.declared.Verdict.TheVariants.{Refused}
 use Rattle.layers.specs.Answers.{no_head}
 use Rattle.crowding_code.proofs.packings.CrowdLoop.{crowd-holds, crowd-done, crowd-fits, crowd-ordered, crowd-place, crowd-found, crowd-again}
 use Rattle.crowding_code.proofs.packings.check_packings.Goals as goal
@@ -56,16 +56,16 @@ row_start-requires c =
     let place = crowd-place _ _ _ _ _ _ _ c.loop-x.invariant.0 c.loop-x-test.true ((let held-here : c.args.layers ≤ length c.args.heads = omega (arith, c.requires.packings_asked.few, c.requires.packings_asked.r-most) in held-here)) _ ((let part-here : let bytes = c.args.bytes.now in
     let start = c.loop-x.start in
     take (length bytes - start) (drop start bytes) ≡ drop start bytes = take-drop-rest c.args.bytes.now c.loop-x.start in part-here)) _
-    c.layer_crowded-found.ensures c.in-At.is in
+    c.layer_crowded-found.ensures c.in-Some.is in
     omega (arith, c.well_formed.0)
 
-pub returns-in-At : goal.returns-in-At
-returns-in-At c =
-    ap (λ place. Refused (Crowded place)) c.row_start.ensures
+pub returns-in-Some : goal.returns-in-Some
+returns-in-Some c =
+    ap (λ place. Err (Crowded place)) c.row_start.ensures
     ∙ crowd-found _ _ _ _ _ _ _ c.loop-x.invariant.0 c.loop-x-test.true ((let held-here : c.args.layers ≤ length c.args.heads = omega (arith, c.requires.packings_asked.few, c.requires.packings_asked.r-most) in held-here)) _ ((let part-here : let bytes = c.args.bytes.now in
     let start = c.loop-x.start in
     take (length bytes - start) (drop start bytes) ≡ drop start bytes = take-drop-rest c.args.bytes.now c.loop-x.start in part-here)) _
-    c.layer_crowded-found.ensures c.in-At.is
+    c.layer_crowded-found.ensures c.in-Some.is
 
 pub overflow_mul-start : goal.overflow_mul-start
 overflow_mul-start c =

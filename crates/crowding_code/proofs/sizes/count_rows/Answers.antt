@@ -9,7 +9,7 @@ use Rattle.crowding_code.proofs.sizes.count_rows.Goals as goal
 
 pub loop-x-init : goal.loop-x-init
 unfolding total
-loop-x-init c = (omega arith, refl)
+loop-x-init c = refl
 
 pub overflow_add-sum : goal.overflow_add-sum
 overflow_add-sum c =
@@ -19,9 +19,9 @@ overflow_add-sum c =
 pub loop-x-preserved : goal.loop-x-preserved
 loop-x-preserved c =
     let next = sizes-take-suc c.args.heads c.loop-x.x in
-    (omega arith, omega arith)
+    omega arith
 
 pub returns : goal.returns
 returns c =
     let all : c.loop-x.x ≡ c.args.layers = omega arith in
-    c.loop-x.invariant.1 ∙ ap (λ x. sizes (take x c.args.heads)) all
+    c.loop-x.invariant ∙ ap (λ x. sizes (take x c.args.heads)) all

@@ -32,15 +32,15 @@ pub children-returns : goal.children-returns
 children-returns t c = growing-end c.requires c.loop-v.invariant c.loop-v-test.false
 
 pub visit-returns-then-w-eq0 : goal.visit-returns-then-w-eq0
-visit-returns-then-w-eq0 t c = grown-last c.requires c.if-w-eq0.true
+visit-returns-then-w-eq0 t c = rw c.from.ensures (grown-last c.requires c.if-w-eq0.true)
 
 pub visit-most_after-requires : goal.visit-most_after-requires
 visit-most_after-requires t c = chain-to-count c.requires
 
 pub visit-returns-then-w-eq1 : goal.visit-returns-then-w-eq1
 visit-returns-then-w-eq1 t c =
-    grown-one c.requires c.most_after.result c.larger.result c.if-w-eq1.true
-    c.most_after.ensures c.larger.ensures
+    grown-one c.requires c.most_after.result c.max.result c.if-w-eq1.true
+    c.most_after.ensures c.max.ensures
 
 pub visit-link_tails-longest-requires : goal.visit-link_tails-longest-requires
 visit-link_tails-longest-requires t c =

@@ -1,12 +1,7 @@
 -- `crowding_pairs::count::count_row` meets its contract. The loop's invariant: the pairs whose first node is before place k are
 -- counted. Assumes nothing.
-use Prim.Native.Nat.{◌-◌}
-use lib.ListN.{length}
 use Rattle.crowding_pairs.proofs.Cells.{Part}
 use Rattle.crowding_pairs.proofs.count.count_row.Given as goal
 
 abbrev pub invariant-loop-k : goal.invariant-loop-k
 invariant-loop-k l = Part l.row l.initial.table l.table l.k
-
-abbrev pub decreases-loop-k : goal.decreases-loop-k
-decreases-loop-k l = length l.row - l.k

@@ -23,6 +23,7 @@ count_all-requires c =
 pub returns : goal.returns
 returns c =
     let a = c.args in
-    c.most_of.ensures
+    c.from.ensures
+    ∙ c.most_of.ensures
     ∙ most-is (λ p. coded_rows p (rows_at a.r a.c a.rows.now)) 32896 c.count_all.new.table (c.count_all.ensures.same ∙ length-replicate {A = ℕ} 32896 0)
     (λ p. omega (arith, c.count_all.ensures.cell p, at-most-zero 32896 p))

@@ -20,7 +20,7 @@ most_without_one-requires c =
 pub loop-i-preserved : goal.loop-i-preserved
 loop-i-preserved c =
     most-next c.loop-i.invariant c.loop-i-test.true (rw c.weight.ensures at c.most_without_one.ensures)
-    c.larger-most.ensures
+    c.max-most.ensures
 
 pub returns : goal.returns
 returns c = most-all c.loop-i.invariant c.loop-i-test.false

@@ -3,7 +3,7 @@ use native.Mathlib.Omega.{arith}
 use borrow.Author.Tests.{lt-ltb, le-ltb}
 use Rattle.crowding_sums.proofs.Kept.{keeping_start, kept-few, row_fits, row-looked, room-left, keep-fits, keeping-past, keeping-next, keeping_all}
 use Rattle.crowding_sums.proofs.rows.keep_counted.Goals as goal
-use Rattle.crowding_sums.proofs.rows.keep_counted.Goals.{then-most_of_row-bound, else-most_of_row-bound}
+use Rattle.crowding_sums.proofs.rows.keep_counted.Goals.{then-most_of_row-sets, else-most_of_row-sets}
 
 pub loop-i-init : goal.loop-i-init
 loop-i-init c = keeping_start
@@ -43,8 +43,8 @@ slice_bounds-copy_bytes-start c =
       room-left c.loop-i.invariant pre.look.fit.whole pre.room c.loop-i-test.true,
     )
 
-pub slice_bounds-copy_bytes-end-then-most_of_row-bound : goal.slice_bounds-copy_bytes-end-then-most_of_row-bound
-slice_bounds-copy_bytes-end-then-most_of_row-bound c =
+pub slice_bounds-copy_bytes-end-then-most_of_row-sets : goal.slice_bounds-copy_bytes-end-then-most_of_row-sets
+slice_bounds-copy_bytes-end-then-most_of_row-sets c =
     let pre = c.requires in
     omega (arith, row_fits c.loop-i.invariant pre.look.fit.whole pre.room c.loop-i-test.true)
 
@@ -70,13 +70,13 @@ pub loop-i-preserved : goal.loop-i-preserved
 loop-i-preserved c =
     let pre = c.requires in
     let taken = c.loop-i-test.true in
-    elim c.if-most_of_row-bound.branch [
-      | then-most_of_row-bound w ↦ rw (w.kept-is, w.m-is, w.to-is)
+    elim c.if-most_of_row-sets.branch [
+      | then-most_of_row-sets w ↦ rw (w.kept-is, w.m-is, w.to-is)
           (keeping-next c.loop-i.invariant pre.look.fit.whole pre.room taken
-          (lt-ltb _ _ (rw c.most_of_row.ensures at w.if-most_of_row-bound.true)) w.copy_bytes.ensures)
-      | else-most_of_row-bound w ↦ rw (w.kept-is, w.m-is, w.to-is)
+          (lt-ltb _ _ (rw c.most_of_row.ensures at w.if-most_of_row-sets.true)) w.copy_bytes.ensures)
+      | else-most_of_row-sets w ↦ rw (w.kept-is, w.m-is, w.to-is)
           (keeping-past c.loop-i.invariant pre.look.fit.whole pre.room taken
-          (le-ltb _ _ (rw c.most_of_row.ensures at w.if-most_of_row-bound.false)))
+          (le-ltb _ _ (rw c.most_of_row.ensures at w.if-most_of_row-sets.false)))
     ]
 
 pub shape_of-kept : goal.shape_of-kept

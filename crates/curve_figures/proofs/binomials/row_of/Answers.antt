@@ -6,15 +6,12 @@ use Rattle.curve.proofs.Binomials.{row_zero}
 use Rattle.curve_figures.proofs.binomials.row_of.Goals as goal
 
 pub loop-i-init : goal.loop-i-init
-loop-i-init c = (row_zero, omega arith)
-
-pub next_row-next-requires : goal.next_row-next-requires
-next_row-next-requires c = (c.loop-i.invariant.0, omega arith)
+loop-i-init c = row_zero
 
 pub loop-i-preserved : goal.loop-i-preserved
-loop-i-preserved c = (c.next_row-next.ensures ∙ rw add-one, omega arith)
+loop-i-preserved c = c.next_row-next.ensures ∙ rw add-one
 
 pub returns : goal.returns
 returns c =
     let e : c.loop-i.i ≡ c.args.m = omega arith in
-    c.loop-i.invariant.0 ∙ ap binomial_row e
+    c.loop-i.invariant ∙ ap binomial_row e

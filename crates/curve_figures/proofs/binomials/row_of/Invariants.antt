@@ -5,7 +5,4 @@ use Rattle.curve.specs.Binomials.{binomial_row}
 use Rattle.curve_figures.proofs.binomials.row_of.Given as goal
 
 abbrev pub invariant-loop-i : goal.invariant-loop-i
-invariant-loop-i l = (l.row ≡ binomial_row l.i) × (l.i ≤ l.m)
-
-abbrev pub decreases-loop-i : goal.decreases-loop-i
-decreases-loop-i l = l.m - l.i
+invariant-loop-i l = l.row ≡ binomial_row l.i

@@ -7,6 +7,3 @@ use Rattle.curve_figures.proofs.figures.figure_from.Given as goal
 
 abbrev pub invariant-loop-x : goal.invariant-loop-x
 invariant-loop-x l = LossTurn OneFloor l.s l.k l.layers l.lost l.x
-
-abbrev pub decreases-loop-x : goal.decreases-loop-x
-decreases-loop-x l = l.s - l.x

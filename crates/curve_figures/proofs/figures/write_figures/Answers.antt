@@ -16,11 +16,11 @@ row_of-below-requires c =
 pub loop-i-init : goal.loop-i-init
 loop-i-init c =
     let e : c.args.s ≡ c.args.s + 0 = omega arith in
-    (omega arith, stored-none 0 _ _, c.row_of-below.ensures ∙ ap binomial_row e)
+    (stored-none 0 _ _, c.row_of-below.ensures ∙ ap binomial_row e)
 
 pub figure_at-requires : goal.figure_at-requires
 figure_at-requires c =
-    let p = c.requires in record { layers_asked = (p.0, omega arith, omega (arith, p.1, c.loop-i-test.true)); above_value = (c.loop-i.invariant.2, c.row_of-below.ensures) }
+    let p = c.requires in record { layers_asked = (p.0, omega arith, omega (arith, p.1, c.loop-i-test.true)); above_value = (c.loop-i.invariant.1, c.row_of-below.ensures) }
 
 pub overflow_cast-out : goal.overflow_cast-out
 overflow_cast-out c =
@@ -34,21 +34,21 @@ overflow_cast-out c =
 
 pub bounds-out-i : goal.bounds-out-i
 bounds-out-i c =
-    let e = length-stored 0 _ _ _ c.loop-i.invariant.1 in
+    let e = length-stored 0 _ _ _ c.loop-i.invariant.0 in
     omega arith
 
 pub loop-i-preserved : goal.loop-i-preserved
 loop-i-preserved c =
-    let next = stored_next 0 _ (λ j. figure_of c.args.rule c.args.s (c.args.s + j) c.args.b (take c.args.s c.args.layers)) c.loop-i.i _ c.loop-i.invariant.1
+    let next = stored_next 0 _ (λ j. figure_of c.args.rule c.args.s (c.args.s + j) c.args.b (take c.args.s c.args.layers)) c.loop-i.i _ c.loop-i.invariant.0
     c.figure_at.ensures in
     let e : suc (c.args.s + c.loop-i.i) ≡ c.args.s + (c.loop-i.i + 1) = omega arith in
-    (omega arith, rw zero-add at next, c.next_row-next.ensures ∙ ap binomial_row e)
+    (rw zero-add at next, c.next_row-next.ensures ∙ ap binomial_row e)
 
 pub shape_of-out : goal.shape_of-out
 shape_of-out c =
-    length-stored 0 _ _ _ c.loop-i.invariant.1
+    length-stored 0 _ _ _ c.loop-i.invariant.0
 
 pub returns : goal.returns
 returns c =
     let e : c.loop-i.i ≡ c.args.entries = omega arith in
-    c.loop-i.invariant.1 ∙ ap (stored_to 0 c.args.out.now (λ j. figure_of c.args.rule c.args.s (c.args.s + j) c.args.b (take c.args.s c.args.layers))) e
+    c.loop-i.invariant.0 ∙ ap (stored_to 0 c.args.out.now (λ j. figure_of c.args.rule c.args.s (c.args.s + j) c.args.b (take c.args.s c.args.layers))) e

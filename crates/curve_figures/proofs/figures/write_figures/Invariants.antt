@@ -10,7 +10,4 @@ use Rattle.curve_figures.proofs.figures.write_figures.Given as goal
 
 abbrev pub invariant-loop-i : goal.invariant-loop-i
 invariant-loop-i l =
-    (l.i ≤ l.entries) × (l.out ≡ stored_to 0 l.initial.out (λ j. figure_of l.rule l.s (l.s + j) l.b (take l.s l.layers)) l.i) × (l.above ≡ binomial_row (l.s + l.i))
-
-abbrev pub decreases-loop-i : goal.decreases-loop-i
-decreases-loop-i l = l.entries - l.i
+    (l.out ≡ stored_to 0 l.initial.out (λ j. figure_of l.rule l.s (l.s + j) l.b (take l.s l.layers)) l.i) × (l.above ≡ binomial_row (l.s + l.i))

@@ -8,8 +8,5 @@ use Rattle.export_replay.proofs.events.run.Given as goal
 
 abbrev pub invariant-loop-i : goal.invariant-loop-i
 invariant-loop-i l =
-    (l.i ≤ length l.times) × Standing l.progress l.board
+    Standing l.progress l.board
     × (rest l.initial.progress l.initial.board 0 (events_of l.times l.nodes l.downs) ≡ rest l.progress l.board l.i (drop l.i (events_of l.times l.nodes l.downs)))
-
-abbrev pub decreases-loop-i : goal.decreases-loop-i
-decreases-loop-i l = length l.times - l.i

@@ -1,11 +1,7 @@
 -- `feeders_code::list::read_each` meets its contract. The loop's invariant: the feeders read so far, and those that are read from the
--- present place on, are the whole. The measure is how many are left. Assumes nothing.
-use Prim.Native.Nat.{◌-◌}
+-- present place on, are the whole. Assumes nothing.
 use Rattle.feeders_code.proofs.list.EachLoop.{EachTurn}
 use Rattle.feeders_code.proofs.list.read_each.Given as goal
 
 abbrev pub invariant-loop-i : goal.invariant-loop-i
 invariant-loop-i l = EachTurn l.g l.count l.bytes l.at l.each l.next l.i
-
-abbrev pub decreases-loop-i : goal.decreases-loop-i
-decreases-loop-i l = l.count - l.i

@@ -1,11 +1,11 @@
 -- `feeders_packings::units::check_units` meets its contract, over the first row that does not ascend and the packing test. Assumes nothing.
 use Prim.Native.Nat.{◌+◌, ◌*◌, ◌-◌, ◌≤◌}
+use Rattle.std.specs.Prelude.{Err}
 use native.Mathlib.Omega.{arith}
 use mathlib.Core.Path.{◌≡◌, ◌∙◌, ap}
 use lib.ListN.{length, take, drop, length-drop}
 use Rattle.lists.proofs.Writing.{take-drop-rest}
 use Rattle.refusal.specs.declared.Refusal.TheVariants.{SharedFeeder}
-use Rattle.refusal.specs.declared.Verdict.TheVariants.{Refused}
 use Rattle.packing.specs.Rows.{rows_at}
 use Rattle.crowding_code.proofs.AllRows.{rows-small}
 use Rattle.feeders_packings.proofs.UnitAnswers.{shared-place, shared-refused, units-ascend, units-left}
@@ -41,7 +41,7 @@ first_bad-shared-requires c =
 pub row_start-requires : goal.row_start-requires
 row_start-requires c =
     let place = shared-place c.args.number c.args.r c.args.at _ (take c.args.layers c.args.heads) c.args.fed.now _ ((let part-here : take (length c.args.fed.now - c.args.at) (drop c.args.at c.args.fed.now) ≡ drop c.args.at c.args.fed.now = take-drop-rest c.args.fed.now c.args.at in part-here)) c.count_rows-rows.ensures _ c.first_bad-shared.ensures
-    c.in-At.is in
+    c.in-Some.is in
     omega (
       arith,
       (let fits-here : (c.count_rows-rows.result * c.args.r ≤ 20480) × (c.args.at + c.count_rows-rows.result * c.args.r ≤ length c.args.fed.now) × (c.args.at ≤ 1092) = let few = c.requires.rows_asked.rows-most in
@@ -49,11 +49,11 @@ row_start-requires c =
           (rows-small (omega arith) c.requires.rows_asked.r-most, omega (arith, c.requires.r_in_bounds), c.requires.rows_asked.start-most) in fits-here),
     )
 
-pub returns-in-At : goal.returns-in-At
-returns-in-At c =
-    ap (λ place. Refused (SharedFeeder place)) c.row_start.ensures
+pub returns-in-Some : goal.returns-in-Some
+returns-in-Some c =
+    ap (λ place. Err (SharedFeeder place)) c.row_start.ensures
     ∙ shared-refused c.args.number c.args.r c.args.at _ (take c.args.layers c.args.heads) c.args.fed.now _ ((let part-here : take (length c.args.fed.now - c.args.at) (drop c.args.at c.args.fed.now) ≡ drop c.args.at c.args.fed.now = take-drop-rest c.args.fed.now c.args.at in part-here)) c.count_rows-rows.ensures _ c.first_bad-shared.ensures
-    c.in-At.is
+    c.in-Some.is
 
 pub first_load-load-requires : goal.first_load-load-requires
 first_load-load-requires c =

@@ -1,6 +1,6 @@
 -- `join_writer::rows::write_layers` meets its contract. The loop's invariant: the layers below x stand at the front, and what
 -- follows them is as it was. Assumes nothing.
-use Prim.Native.Nat.{ℕ, ◌-◌}
+use Prim.Native.Nat.{ℕ}
 use mathlib.Core.List.{[]}
 use Rattle.layers.specs.declared.Dark.{Dark}
 use Rattle.join.specs.declared.Piece.{Piece}
@@ -22,7 +22,3 @@ invariant-loop-x l =
     (record { nodes = l.two_nodes; place = l.initial.from_second; layers = l.two_layers; dark = none }) (record { nodes = 0; place = l.initial.from_third; layers = l.three_layers; dark = none }) in
     Laying l.r (layers_below e l.heads l.first l.second l.third) (blocks_from l.r e.a) (blocks_from l.r e.b) (blocks_from l.r e.c) l.initial.out l.out l.from_first l.from_second
     l.from_third l.at l.x
-
-abbrev pub decreases-loop-x : goal.decreases-loop-x
-decreases-loop-x l =
-    l.r - l.x

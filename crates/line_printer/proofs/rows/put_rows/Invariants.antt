@@ -1,10 +1,6 @@
 -- `line_printer::rows::put_rows` meets its contract. The loop: the rows from row j on are left. Assumes nothing.
-use Prim.Native.Nat.{◌-◌}
 use Rattle.line_printer.proofs.Turns.{RowsTurn}
 use Rattle.line_printer.proofs.rows.put_rows.Given as goal
 
 abbrev pub invariant-loop-j : goal.invariant-loop-j
-invariant-loop-j l = RowsTurn l.rows l.m l.r l.initial.out l.at l.out l.place l.from l.j
-
-abbrev pub decreases-loop-j : goal.decreases-loop-j
-decreases-loop-j l = l.m - l.j
+invariant-loop-j l = RowsTurn l.rows l.m l.r l.initial.out l.at l.out l.place l.from l._j

@@ -3,8 +3,8 @@ use Rattle.logs_code.proofs.lines.event_said.Goals as goal
 
 pub returns-in-Down : goal.returns-in-Down
 returns-in-Down c =
-    rw (c.in-Number.is, c.in-Number-node.is, c.in-Down.is) c.event_of.ensures
+    rw (c.in-Some.is, c.in-Some-node.is, c.in-Down.is) c.event_of.ensures
 
 pub returns-in-Up : goal.returns-in-Up
 returns-in-Up c =
-    rw (c.in-Number.is, c.in-Number-node.is, c.in-Up.is) c.event_of-in-Up.ensures
+    rw (c.in-Some.is, c.in-Some-node.is, c.in-Up.is) c.event_of-in-Up.ensures

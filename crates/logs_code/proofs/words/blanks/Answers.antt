@@ -1,18 +1,15 @@
-use mathlib.Core.Path.{sym, ◌∙◌}
+-- `words::blanks` meets its contract. Assumes nothing.
+use mathlib.Core.Path.{◌∙◌}
+use mathlib.Core.Bool.{not}
+use Rattle.std.proofs.Common.{rules, tests}
+use Rattle.std.proofs.lemmas.Iterator.{YieldsList-from_slice}
+use Rattle.std.proofs.lemmas.Iterator.Search.{position_from_yields_List}
 use Rattle.table.specs.Lines.{is_blank}
-use Rattle.logs_code.proofs.Places.{passed_none, passed_here, passed-next, passed-all}
+use Rattle.logs_code.proofs.Places.{twice, leading-or-end}
 use Rattle.logs_code.proofs.words.blanks.Goals as goal
 
-pub loop-i-init : goal.loop-i-init
-loop-i-init c = passed_none is_blank _
-
-pub returns-then-not-is_blank : goal.returns-then-not-is_blank
-returns-then-not-is_blank c =
-    passed_here is_blank _ c.loop-i.invariant c.loop-i-test.true (sym c.is_blank.ensures ∙ c.if-not-is_blank.true)
-
-pub loop-i-preserved : goal.loop-i-preserved
-loop-i-preserved c =
-    passed-next is_blank _ c.loop-i.invariant c.loop-i-test.true (sym c.is_blank.ensures ∙ c.if-not-is_blank.false)
-
 pub returns : goal.returns
-returns c = passed-all is_blank _ c.loop-i.invariant c.loop-i-test.false
+returns c =
+    c.unwrap_or.ensures
+    ∙ leading-or-end is_blank (λ b. not (is_blank b)) (λ b. twice (is_blank b)) c.args.bytes.now
+    (position_from_yields_List (λ b. not (is_blank b)) _ _ c.position.result c.position.ensures.ran (YieldsList-from_slice c.args.bytes.now cc) (λ x b q k. search (rules, tests)))

@@ -3,8 +3,8 @@ use mathlib.Core.Path.{sym, ap}
 use Rattle.number.specs.Answers.{refusal_of}
 use Rattle.number_code.proofs.within.refusal_of.Goals as goal
 
-pub returns-in-Value : goal.returns-in-Value
-returns-in-Value c = sym (ap refusal_of c.in-Value.is)
+pub returns-in-Ok : goal.returns-in-Ok
+returns-in-Ok c = sym (ap refusal_of c.in-Ok.is)
 
-pub returns-in-Refused : goal.returns-in-Refused
-returns-in-Refused c = sym (ap refusal_of c.in-Refused.is)
+pub returns-in-Err : goal.returns-in-Err
+returns-in-Err c = sym (ap refusal_of c.in-Err.is)

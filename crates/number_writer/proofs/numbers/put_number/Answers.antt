@@ -9,9 +9,9 @@ returns-in_default c = absurd (put-not-refused ((number_put _ _ c.args.at c.args
 pub overflow_add-result : goal.overflow_add-result
 overflow_add-result c =
     let p = (number_put _ _ c.args.at c.args.v _ (c.requires.v_le_largest_number, c.requires.v_in_bounds) c.write_number-written.ensures) in
-    omega (arith, c.requires.v_in_bounds, put-length p c.in-Written.is)
+    omega (arith, c.requires.v_in_bounds, put-length p c.in-Ok.is)
 
 pub returns : goal.returns
 returns c =
     let p = (number_put _ _ c.args.at c.args.v _ (c.requires.v_le_largest_number, c.requires.v_in_bounds) c.write_number-written.ensures) in
-    (omega (arith, put-length p c.in-Written.is), p.bytes)
+    (omega (arith, put-length p c.in-Ok.is), p.bytes)

@@ -4,11 +4,12 @@ use Prim.Native.Nat.{◌+◌, ◌*◌, ◌≤◌}
 use native.Mathlib.Omega.{arith}
 use mathlib.Core.Path.{sym, ◌∙◌, ap}
 use lib.ListN.{take}
+use Rattle.refusal.proofs.Answered.{passed-on, answered-err}
 use Rattle.layers.specs.Answers.{site_of}
 use Rattle.placement.specs.Answers.{records_check}
 use Rattle.placement.specs.Feeders.{read_numbered}
 use Rattle.crowding_code.proofs.AllRows.{rows-small}
-use Rattle.placement_code.proofs.FedAnswers.{read-refused, WasRead, was_read, fed-short, fed-unread, fed-fits, fed-long, fed-refused, fed-good}
+use Rattle.placement_code.proofs.FedAnswers.{was_read, fed-short, fed-unread, fed-fits, fed-long, fed-refused, fed-good}
 use Rattle.placement_code.proofs.fed.check_fed.Goals as goal
 
 pub count_rows-rows-requires : goal.count_rows-rows-requires
@@ -34,27 +35,25 @@ overflow_add-end c = omega (
 
 pub returns-then-bytes-end : goal.returns-then-bytes-end
 returns-then-bytes-end c =
-    c.refuse.ensures
-    ∙ ap records_check (sym (fed-short _ _ _ _ _ _ c.count_rows-rows.ensures c.requires.n-most c.if-bytes-end.true))
+    ap records_check (sym (fed-short _ _ _ _ _ _ c.count_rows-rows.ensures c.requires.n-most c.if-bytes-end.true))
 
-pub read_feeders-read-requires : goal.read_feeders-read-requires
-read_feeders-read-requires c =
+pub read_feeders-requires : goal.read_feeders-requires
+read_feeders-requires c =
     let p = c.requires in
     (p.k-most, p.r-nodes, p.n-most)
 
-pub returns-in-Refused : goal.returns-in-Refused
-returns-in-Refused c =
-    c.refuse-in-Refused.ensures
+pub returns-in_err-read : goal.returns-in_err-read
+returns-in_err-read c =
+    passed-on _ c.from_residual.ensures.1
     ∙ ap records_check (sym (fed-unread _ _ _ _ _ _ c.count_rows-rows.ensures c.requires.n-most c.if-bytes-end.false
-    (read-refused (read_numbered _ _ _ _ _) c.read_feeders-read.ensures c.in-Refused.is)))
+    (answered-err _ (read_numbered _ _ _ _ _) c.read_feeders.ensures c.in_err-read.was)))
 
 pub returns-then-next-bytes : goal.returns-then-next-bytes
 returns-then-next-bytes c =
-    c.refuse-then-next-bytes.ensures
-    ∙ ap records_check (sym (fed-long _ _ _ _ _ _ c.count_rows-rows.ensures c.requires.n-most c.if-bytes-end.false ((let was-here : WasRead (read_numbered c.args.base.n c.args.base.r c.args.terms.k c.args.bytes.now (c.args.at + c.count_rows-rows.result * c.args.base.r)) c.read_feeders-read.result = was_read (read_numbered _ _ _ _ _) c.read_feeders-read.ensures c.in_default.is in was-here)) c.if-next-bytes.true))
+    ap records_check (sym (fed-long _ _ _ _ _ _ c.count_rows-rows.ensures c.requires.n-most c.if-bytes-end.false (was_read _ c.read_feeders.ensures c.in_ok-read.was) c.if-next-bytes.true))
 
-pub check_rows-tested-requires : goal.check_rows-tested-requires
-check_rows-tested-requires c =
+pub check_rows-requires : goal.check_rows-requires
+check_rows-requires c =
     let p = c.requires in
     let bytes = ap (λ rows. rows * c.args.base.r) c.count_rows-rows.ensures in
     record {
@@ -63,16 +62,16 @@ check_rows-tested-requires c =
       dark = p.dark;
       k = c.args.terms.k;
       n-most = p.n-most;
-      fits = fed-fits (site_of c.args.base) _ (take c.args.terms.s c.args.heads) _ _ _ c.count_rows-rows.ensures p.n-most c.if-bytes-end.false ((let was-here : WasRead (read_numbered c.args.base.n c.args.base.r c.args.terms.k c.args.bytes.now (c.args.at + c.count_rows-rows.result * c.args.base.r)) c.read_feeders-read.result = was_read (read_numbered _ _ _ _ _) c.read_feeders-read.ensures c.in_default.is in was-here));
+      fits = fed-fits (site_of c.args.base) _ (take c.args.terms.s c.args.heads) _ _ _ c.count_rows-rows.ensures p.n-most c.if-bytes-end.false (was_read _ c.read_feeders.ensures c.in_ok-read.was);
     }
 
-pub returns-in-Refused-tested : goal.returns-in-Refused-tested
-returns-in-Refused-tested c =
-    c.refuse-in-Refused-tested.ensures
-    ∙ ap records_check (sym (fed-refused _ _ _ _ _ _ c.count_rows-rows.ensures c.requires.n-most c.if-bytes-end.false ((let was-here : WasRead (read_numbered c.args.base.n c.args.base.r c.args.terms.k c.args.bytes.now (c.args.at + c.count_rows-rows.result * c.args.base.r)) c.read_feeders-read.result = was_read (read_numbered _ _ _ _ _) c.read_feeders-read.ensures c.in_default.is in was-here)) c.if-next-bytes.false
-    c.check_rows-tested.ensures c.in-Refused-tested.is))
+pub returns-in_err-check_rows : goal.returns-in_err-check_rows
+returns-in_err-check_rows c =
+    passed-on _ c.from_residual-in_err-check_rows.ensures.1
+    ∙ ap records_check (sym (fed-refused _ _ _ _ _ _ c.count_rows-rows.ensures c.requires.n-most c.if-bytes-end.false (was_read _ c.read_feeders.ensures c.in_ok-read.was) c.if-next-bytes.false
+    c.check_rows.ensures c.in_err-check_rows.was))
 
 pub returns : goal.returns
 returns c =
-    fed-good _ _ _ _ _ _ c.count_rows-rows.ensures c.requires.n-most c.if-bytes-end.false ((let was-here : WasRead (read_numbered c.args.base.n c.args.base.r c.args.terms.k c.args.bytes.now (c.args.at + c.count_rows-rows.result * c.args.base.r)) c.read_feeders-read.result = was_read (read_numbered _ _ _ _ _) c.read_feeders-read.ensures c.in_default.is in was-here)) c.if-next-bytes.false
-    c.check_rows-tested.ensures c.in_default-tested.is
+    fed-good _ _ _ _ _ _ c.count_rows-rows.ensures c.requires.n-most c.if-bytes-end.false (was_read _ c.read_feeders.ensures c.in_ok-read.was) c.if-next-bytes.false
+    c.check_rows.ensures c.in_ok-check_rows.was

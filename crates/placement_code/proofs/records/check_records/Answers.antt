@@ -1,6 +1,7 @@
 -- `placement_code::records::check_records` meets its contract: kind 6 is checked apart, and every other kind as its rows are. Assumes nothing.
+use mathlib.Core.Path.{◌∙◌}
 use borrow.Author.Tests.{ne_eqb}
-use Rattle.placement_code.proofs.Unfed.{unfed-answer}
+use Rattle.placement_code.proofs.Unfed.{unfed-answer, unfed-good}
 use Rattle.placement_code.proofs.records.check_records.Goals as goal
 
 pub check_fed-records-requires : goal.check_fed-records-requires
@@ -15,4 +16,9 @@ check_rows-rows-requires c =
     record { layers_le_r = (p.rows.few, p.rows.r-most, p.inside); heads_bound = p.rows.rows-most; dark_fits = p.dark }
 
 pub returns : goal.returns
-returns c = record { records_value = unfed-answer _ _ _ _ _ _ (ne_eqb _ 6 c.if-kind-eq6.false) c.check_rows-rows.ensures.verdict_value; load_value = λ good unfed. c.check_rows-rows.ensures.loaded good }
+returns c =
+    record {
+      records_value =
+          c.without_feeders.ensures ∙ unfed-answer _ _ _ _ _ _ (ne_eqb _ 6 c.if-kind-eq6.false) c.check_rows-rows.ensures.verdict_value;
+      load_value = λ good unfed. c.check_rows-rows.ensures.loaded (unfed-good _ (rw c.without_feeders.ensures at good));
+    }

@@ -1,15 +1,9 @@
 use native.Mathlib.Omega.{arith}
-use Rattle.planner.proofs.Layering.{layers-none, layer_fits, blocks-within, lent-fit, layers-next, layers-all}
+use Rattle.planner.proofs.Layering.{layers-none, layer_fits, blocks-within, lent-fit, layers-next}
 use Rattle.planner_writer.proofs.rows.write_layers.Goals as goal
 
 pub loop-x-init : goal.loop-x-init
 loop-x-init c = layers-none _ _ _ _ _ _
-
-pub offset_bounds-layers-x : goal.offset_bounds-layers-x
-offset_bounds-layers-x c = omega (arith, c.requires.s-most)
-
-pub bounds-layers-x : goal.bounds-layers-x
-bounds-layers-x c = omega (arith, c.requires.s-most)
 
 pub slice_bounds-write_rows-count : goal.slice_bounds-write_rows-count
 slice_bounds-write_rows-count c = omega (arith, (layer_fits c.loop-x.invariant c.requires c.loop-x-test.true))
@@ -41,9 +35,3 @@ overflow_add-from c = omega (arith, (blocks-within c.loop-x.invariant c.requires
 pub loop-x-preserved : goal.loop-x-preserved
 loop-x-preserved c =
     layers-next c.loop-x.invariant c.requires c.loop-x-test.true c.write_rows.new.out c.write_rows.ensures
-
-pub shape_of-out : goal.shape_of-out
-shape_of-out c = c.loop-x.invariant.same
-
-pub returns : goal.returns
-returns c = layers-all c.loop-x.invariant c.requires c.loop-x-test.false

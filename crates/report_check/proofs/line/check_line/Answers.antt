@@ -5,26 +5,26 @@ use Rattle.report_check.proofs.line.check_line.Goals as goal
 
 pub largest_load-most-requires : goal.largest_load-most-requires
 largest_load-most-requires c =
-    let k = (let known-here : LineOf c.args.input.now c.in-Accepted.head = line-of-check _ _ c.check_loaded-loaded.ensures.check_value c.in-Accepted.is in known-here) in
+    let k = (let known-here : LineOf c.args.input.now c.in-Ok.head = line-of-check _ _ c.check_loaded-loaded.ensures.check_value c.in-Ok.is in known-here) in
     record {
       n-most = k.n-most;
       b-most = k.b-most;
       r-most = k.r-most;
       within = k.within;
       ordered = k.ordered;
-      handed = c.check_loaded-loaded.ensures.handed.counted _ c.in-Accepted.is;
+      handed = c.check_loaded-loaded.ensures.handed.counted _ c.in-Ok.is;
     }
 
 pub mean_load-mean-requires : goal.mean_load-mean-requires
 mean_load-mean-requires c =
-    let k = (let known-here : LineOf c.args.input.now c.in-Accepted.head = line-of-check _ _ c.check_loaded-loaded.ensures.check_value c.in-Accepted.is in known-here) in
+    let k = (let known-here : LineOf c.args.input.now c.in-Ok.head = line-of-check _ _ c.check_loaded-loaded.ensures.check_value c.in-Ok.is in known-here) in
     (k.b-most, k.r-most, k.n-least, k.n-most)
 
-pub returns-in-Refused : goal.returns-in-Refused
-returns-in-Refused c =
-    rw (refused-of-check _ _ c.check_loaded-loaded.ensures.check_value c.in-Refused.is) c.refused_line.ensures
+pub returns-in-Err : goal.returns-in-Err
+returns-in-Err c =
+    rw (refused-of-check _ _ c.check_loaded-loaded.ensures.check_value c.in-Err.is) c.refused_line.ensures
 
-pub returns-in-Accepted : goal.returns-in-Accepted
-returns-in-Accepted c =
-    rw (((let known-here : LineOf c.args.input.now c.in-Accepted.head = line-of-check _ _ c.check_loaded-loaded.ensures.check_value c.in-Accepted.is in known-here)).line, ← c.largest_load-most.ensures, ← c.mean_load-mean.ensures)
+pub returns-in-Ok : goal.returns-in-Ok
+returns-in-Ok c =
+    rw (((let known-here : LineOf c.args.input.now c.in-Ok.head = line-of-check _ _ c.check_loaded-loaded.ensures.check_value c.in-Ok.is in known-here)).line, ← c.largest_load-most.ensures, ← c.mean_load-mean.ensures)
     c.accepted_line.ensures

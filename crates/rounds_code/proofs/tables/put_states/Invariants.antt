@@ -1,6 +1,5 @@
 -- `rounds_code::tables::put_states` meets its contract. The loop's invariant: the usable records of the states before `state` are
 -- stored. Assumes nothing.
-use Prim.Native.Nat.{◌-◌, ◌≤◌}
 use mathlib.Core.Path.{◌≡◌}
 use Rattle.lists.proofs.Stores.{stored_to}
 use Rattle.packing.specs.Rows.{rows_at}
@@ -10,7 +9,4 @@ use Rattle.rounds_code.proofs.tables.put_states.Given as goal
 
 abbrev pub invariant-loop-state : goal.invariant-loop-state
 invariant-loop-state l =
-    (l.table ≡ stored_to 0 l.initial.table (λ i. usable_of l.s (rows_at l.r l.b l.rows) (down_in i)) l.state) × (l.state ≤ l.states)
-
-abbrev pub decreases-loop-state : goal.decreases-loop-state
-decreases-loop-state l = l.states - l.state
+    l.table ≡ stored_to 0 l.initial.table (λ i. usable_of l.s (rows_at l.r l.b l.rows) (down_in i)) l.state

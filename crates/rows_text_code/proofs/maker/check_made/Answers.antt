@@ -4,11 +4,11 @@ use Rattle.certify.specs.Bare.{read_bare}
 use Rattle.rows_text_code.proofs.Making.{made-accepted, made_told}
 use Rattle.rows_text_code.proofs.maker.check_made.Goals as goal
 
-pub returns-in-Good : goal.returns-in-Good
-returns-in-Good c =
-    made-accepted (read_bare c.args.made.now) c.read_bare-read.ensures (length c.args.made.now) c.args.lines.now c.args.first c.args.r c.in-Good.is
+pub returns-in-Ok : goal.returns-in-Ok
+returns-in-Ok c =
+    made-accepted (read_bare c.args.made.now) c.read_bare.ensures (length c.args.made.now) c.args.lines.now c.args.first c.args.r c.in-Ok.is
 
-pub returns-in-Refused : goal.returns-in-Refused
-returns-in-Refused c =
-    made_told (read_bare c.args.made.now) c.read_bare-read.ensures (length c.args.made.now) c.args.lines.now c.args.first c.args.r
-    c.in-Refused.is c.number-number.ensures c.place.ensures c.line_at-place.ensures
+pub returns-in-Err : goal.returns-in-Err
+returns-in-Err c =
+    made_told (read_bare c.args.made.now) c.read_bare.ensures (length c.args.made.now) c.args.lines.now c.args.first c.args.r
+    c.in-Err.is c.number-number.ensures c.place.ensures c.line_at-place.ensures

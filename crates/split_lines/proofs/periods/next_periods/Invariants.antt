@@ -1,10 +1,6 @@
 -- `split_lines::periods::next_periods` meets its contract. The loop's invariant: the entries before place `i` are laid down. Assumes nothing.
-use Prim.Native.Nat.{◌-◌, ◌≤◌}
 use Rattle.split.specs.Working.{Periods}
 use Rattle.split_lines.proofs.periods.next_periods.Given as goal
 
 abbrev pub invariant-loop-i : goal.invariant-loop-i
-invariant-loop-i l = (l.from ≤ l.i) × (l.i ≤ l.end) × Periods l.size l.step l.cost l.line l.i l.periods
-
-abbrev pub decreases-loop-i : goal.decreases-loop-i
-decreases-loop-i l = l.end - l.i
+invariant-loop-i l = Periods l.size l.step l.cost l.line l.i l.periods

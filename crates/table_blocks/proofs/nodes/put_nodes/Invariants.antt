@@ -1,5 +1,4 @@
 -- `table_blocks::nodes::put_nodes` meets its contract. The loop: the nodes before place i are written. Assumes nothing.
-use Prim.Native.Nat.{◌≤◌, ◌-◌}
 use mathlib.Core.Path.{◌≡◌}
 use mathlib.Core.List.{◌++◌}
 use lib.ListN.{length, take, drop}
@@ -7,7 +6,4 @@ use Rattle.table_blocks.proofs.nodes.put_nodes.Given as goal
 
 abbrev pub invariant-loop-i : goal.invariant-loop-i
 invariant-loop-i l =
-    (l.i ≤ length l.nodes) × (length l.rows ≡ length l.initial.rows) × (l.rows ≡ take l.i l.nodes ++ drop l.i l.initial.rows)
-
-abbrev pub decreases-loop-i : goal.decreases-loop-i
-decreases-loop-i l = length l.nodes - l.i
+    (length l.rows ≡ length l.initial.rows) × (l.rows ≡ take l.i l.nodes ++ drop l.i l.initial.rows)

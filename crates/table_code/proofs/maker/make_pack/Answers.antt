@@ -1,4 +1,5 @@
 -- `table_code::maker::make_pack` meets its contract. Assumes nothing.
+use Rattle.refusal.proofs.Answered.{passed-on}
 use Rattle.table_reader.proofs.Turns.{room-same}
 use Rattle.table_code.proofs.Making.{text-bad, text-fits, text-packed}
 use Rattle.table_code.proofs.maker.make_pack.Goals as goal
@@ -6,14 +7,14 @@ use Rattle.table_code.proofs.maker.make_pack.Goals as goal
 pub pack_draft-requires : goal.pack_draft-requires
 pack_draft-requires c =
     let room = room-same c.requires.room c.numbers-1.given c.rows-1.given c.lines-1.given in
-    record { draft_fits = text-fits _ _ _ _ room c.read_text-added.ensures c.in-To.is; pack_most_in_bounds = c.requires.pack_most_in_bounds }
+    record { draft_fits = text-fits _ _ _ _ room c.read_text.ensures c.in_ok-p.was; pack_most_in_bounds = c.requires.pack_most_in_bounds }
 
-pub returns-in-Bad : goal.returns-in-Bad
-returns-in-Bad c =
+pub returns-in_err-p : goal.returns-in_err-p
+returns-in_err-p c =
     let room = room-same c.requires.room c.numbers-1.given c.rows-1.given c.lines-1.given in
-    text-bad _ _ _ _ room c.read_text-added.ensures c.in-Bad.is _ _
+    rw (passed-on _ c.from_residual.ensures.1) (text-bad _ _ _ _ room c.read_text.ensures c.in_err-p.was _ _)
 
-pub returns-in-To : goal.returns-in-To
-returns-in-To c =
+pub returns : goal.returns
+returns c =
     let room = room-same c.requires.room c.numbers-1.given c.rows-1.given c.lines-1.given in
-    text-packed _ _ _ _ room c.read_text-added.ensures c.in-To.is _ _ _ c.pack_draft.ensures
+    text-packed _ _ _ _ room c.read_text.ensures c.in_ok-p.was _ _ _ c.pack_draft.ensures

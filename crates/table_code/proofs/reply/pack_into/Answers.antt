@@ -5,16 +5,16 @@ use Rattle.table_code.proofs.reply.pack_into.Goals as goal
 
 pub slice_bounds-copy_bytes-end : goal.slice_bounds-copy_bytes-end
 slice_bounds-copy_bytes-end c =
-    omega (arith, packed-inside c.args.input.now _ _ _ c.pack_input-packed.ensures c.in-Bytes.is, c.pack-2-1.given)
+    omega (arith, packed-inside c.args.input.now _ _ _ c.pack_input-packed.ensures c.in-Ok.is, c.pack-2-1.given)
 
 pub copy_bytes-requires : goal.copy_bytes-requires
 copy_bytes-requires c =
-    omega (arith, packed-inside c.args.input.now _ _ _ c.pack_input-packed.ensures c.in-Bytes.is, c.pack-2-1.given, c.requires)
+    omega (arith, packed-inside c.args.input.now _ _ _ c.pack_input-packed.ensures c.in-Ok.is, c.pack-2-1.given, c.requires)
 
-pub returns-in-Bytes : goal.returns-in-Bytes
-returns-in-Bytes c =
-    packed-replied c.args.input.now _ _ _ c.pack_input-packed.ensures c.in-Bytes.is c.copy_bytes.ensures
+pub returns-in-Ok : goal.returns-in-Ok
+returns-in-Ok c =
+    packed-replied c.args.input.now _ _ _ c.pack_input-packed.ensures c.in-Ok.is c.copy_bytes.ensures
 
-pub returns-in-Bad : goal.returns-in-Bad
-returns-in-Bad c =
-    fault-replied c.args.input.now _ _ _ c.pack_input-packed.ensures c.in-Bad.is c.fault_line.ensures
+pub returns-in-Err : goal.returns-in-Err
+returns-in-Err c =
+    fault-replied c.args.input.now _ _ _ c.pack_input-packed.ensures c.in-Err.is c.fault_line.ensures

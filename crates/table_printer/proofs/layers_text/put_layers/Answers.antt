@@ -1,50 +1,32 @@
 use native.Mathlib.Omega.{arith}
+use native.Mathlib.Nat.{sub-zero}
+use Prim.Native.Nat.{◌-◌}
 use mathlib.Core.Path.{◌≡◌}
-use lib.ListN.{length}
-use Rattle.table_printer.proofs.Turns.{layers-none, layers-all, layer-inside, layer-from, layer-blocks, mu-room, blocks-room, layers-next}
+use lib.ListN.{length, take}
+use Rattle.table_printer.proofs.Turns.{taken, layers-none, layers-all, layer-inside, layer-from, layer-blocks, mu-room, blocks-room, layers-next}
 use Rattle.table_printer.proofs.layers_text.put_layers.Goals as goal
-
-pub loop-x-init : goal.loop-x-init
-loop-x-init c =
-    let five : length c.args.heads ≡ 5 = omega (arith, c.well_formed) in
-    layers-none c.args.heads c.args.rows.now c.args.r c.args.out.now c.args.at five c.requires.r_bound c.requires.r_in_bounds
-
-pub bounds-heads-x : goal.bounds-heads-x
-bounds-heads-x c = omega (arith, c.requires.r_bound, c.loop-x-test.true)
-
-pub put_line-next-requires : goal.put_line-next-requires
-put_line-next-requires c =
-    let five : length c.args.heads ≡ 5 = omega (arith, c.well_formed) in
-    omega (arith, mu-room c.args.heads c.args.rows.now c.args.r c.args.out.now c.args.at five c.requires.r_bound c.loop-x.invariant c.loop-x-test.true c.requires.rows_in_bounds)
-
-pub slice_bounds-put_rows-count : goal.slice_bounds-put_rows-count
-slice_bounds-put_rows-count c =
-    let five : length c.args.heads ≡ 5 = omega (arith, c.well_formed) in
-    omega (arith, layer-from c.args.heads c.args.rows.now c.args.r c.args.out.now c.args.at five c.requires.r_bound c.loop-x.invariant c.loop-x-test.true)
 
 pub put_rows-place-requires : goal.put_rows-place-requires
 put_rows-place-requires c =
-    let five : length c.args.heads ≡ 5 = omega (arith, c.well_formed) in record { r_in_bounds = layer-blocks c.args.heads c.args.rows.now c.args.r c.args.out.now c.args.at five c.requires.r_bound c.loop-x.invariant c.loop-x-test.true; r_bound = c.requires.r_bound; rows_in_bounds = blocks-room c.args.heads c.args.rows.now c.args.r c.args.out.now c.args.at five c.requires.r_bound c.loop-x.invariant c.loop-x-test.true c.requires.rows_in_bounds c.put_line-next.ensures }
+    let long : length (take (c.args.r - 0) c.args.heads) ≡ c.args.r = taken c.args.heads c.args.r (omega (arith, c.well_formed)) c.requires.r_bound in record { r_in_bounds = layer-blocks (take (c.args.r - 0) c.args.heads) c.args.rows.now c.args.r c.args.out.now c.args.at long c.loop-head.invariant (omega (arith, c.loop-head-test.true)); r_bound = c.requires.r_bound; rows_in_bounds = blocks-room (take (c.args.r - 0) c.args.heads) c.args.rows.now c.args.r c.args.out.now c.args.at long c.loop-head.invariant (omega (arith, c.loop-head-test.true)) (rw sub-zero c.requires.rows_in_bounds) c.put_line-next.ensures }
 
 pub overflow_mul-from : goal.overflow_mul-from
 overflow_mul-from c =
-    let five : length c.args.heads ≡ 5 = omega (arith, c.well_formed) in
-    omega (arith, layer-inside c.args.heads c.args.rows.now c.args.r c.args.out.now c.args.at five c.requires.r_bound c.loop-x.invariant c.loop-x-test.true)
+    let long : length (take (c.args.r - 0) c.args.heads) ≡ c.args.r = taken c.args.heads c.args.r (omega (arith, c.well_formed)) c.requires.r_bound in
+    omega (arith, layer-inside (take (c.args.r - 0) c.args.heads) c.args.rows.now c.args.r c.args.out.now c.args.at long c.loop-head.invariant (omega (arith, c.loop-head-test.true)))
 
 pub overflow_add-from : goal.overflow_add-from
 overflow_add-from c =
-    let five : length c.args.heads ≡ 5 = omega (arith, c.well_formed) in
-    omega (arith, layer-inside c.args.heads c.args.rows.now c.args.r c.args.out.now c.args.at five c.requires.r_bound c.loop-x.invariant c.loop-x-test.true)
+    let long : length (take (c.args.r - 0) c.args.heads) ≡ c.args.r = taken c.args.heads c.args.r (omega (arith, c.well_formed)) c.requires.r_bound in
+    omega (arith, layer-inside (take (c.args.r - 0) c.args.heads) c.args.rows.now c.args.r c.args.out.now c.args.at long c.loop-head.invariant (omega (arith, c.loop-head-test.true)))
 
-pub loop-x-preserved : goal.loop-x-preserved
-loop-x-preserved c =
-    let five : length c.args.heads ≡ 5 = omega (arith, c.well_formed) in
-    layers-next c.args.heads c.args.rows.now c.args.r c.args.out.now c.args.at five c.requires.r_bound c.loop-x.invariant c.loop-x-test.true c.requires.rows_in_bounds c.put_line-next.ensures c.put_rows-place.ensures
-
-pub shape_of-out : goal.shape_of-out
-shape_of-out c = c.loop-x.invariant.stored.same_length
+pub loop-head-preserved : goal.loop-head-preserved
+loop-head-preserved c =
+    let long : length (take (c.args.r - 0) c.args.heads) ≡ c.args.r = taken c.args.heads c.args.r (omega (arith, c.well_formed)) c.requires.r_bound in
+    layers-next (take (c.args.r - 0) c.args.heads) c.args.rows.now c.args.r c.args.out.now c.args.at long c.loop-head.invariant (omega (arith, c.loop-head-test.true)) (rw sub-zero c.requires.rows_in_bounds) c.put_line-next.ensures c.put_rows-place.ensures
 
 pub returns : goal.returns
 returns c =
-    let five : length c.args.heads ≡ 5 = omega (arith, c.well_formed) in
-    layers-all c.args.heads c.args.rows.now c.args.r c.args.out.now c.args.at five c.requires.r_bound c.loop-x.invariant c.loop-x-test.false
+    let long : length (take (c.args.r - 0) c.args.heads) ≡ c.args.r = taken c.args.heads c.args.r (omega (arith, c.well_formed)) c.requires.r_bound in
+    let long2 : take (c.args.r - 0) c.args.heads ≡ take c.args.r c.args.heads = rw sub-zero in
+    rw (← long2) (layers-all (take (c.args.r - 0) c.args.heads) c.args.rows.now c.args.r c.args.out.now c.args.at long c.loop-head.invariant (omega (arith, c.loop-head-test.false)))

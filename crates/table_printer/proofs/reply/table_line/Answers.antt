@@ -8,20 +8,20 @@ refused_line-requires c = omega (arith, c.requires)
 
 pub slice_bounds-put_table-count : goal.slice_bounds-put_table-count
 slice_bounds-put_table-count c =
-    omega (arith, first-inside c.args.input.now c.check_pack-check.ensures c.in-Accepted.is)
+    omega (arith, first-inside c.args.input.now c.check_pack-check.ensures c.in-Ok.is)
 
 pub slice_bounds-put_table-start : goal.slice_bounds-put_table-start
 slice_bounds-put_table-start c =
-    omega (arith, first-inside c.args.input.now c.check_pack-check.ensures c.in-Accepted.is)
+    omega (arith, first-inside c.args.input.now c.check_pack-check.ensures c.in-Ok.is)
 
 pub put_table-requires : goal.put_table-requires
 put_table-requires c =
-    record { pack_held = pack-held c.args.input.now c.check_pack-check.ensures c.in-Accepted.is; table_most_in_bounds = c.requires }
+    record { pack_held = pack-held c.args.input.now c.check_pack-check.ensures c.in-Ok.is; table_most_in_bounds = c.requires }
 
-pub returns-in-Refused : goal.returns-in-Refused
-returns-in-Refused c =
-    refused-text c.args.input.now c.check_pack-check.ensures c.in-Refused.is c.refused_line.ensures
+pub returns-in-Err : goal.returns-in-Err
+returns-in-Err c =
+    refused-text c.args.input.now c.check_pack-check.ensures c.in-Err.is c.refused_line.ensures
 
-pub returns-in-Accepted : goal.returns-in-Accepted
-returns-in-Accepted c =
-    accepted-text c.args.input.now c.check_pack-check.ensures c.in-Accepted.is c.put_table.ensures
+pub returns-in-Ok : goal.returns-in-Ok
+returns-in-Ok c =
+    accepted-text c.args.input.now c.check_pack-check.ensures c.in-Ok.is c.put_table.ensures

@@ -24,7 +24,7 @@ add_numbers-requires c =
     let w = c.word_of-word.ensures in
     let room : c.args.p.count ≤ length c.args.numbers.now = omega (arith, c.requires.kept.count_most, c.requires.kept.layers-most, c.requires.kept.r-most, c.requires.room.for-numbers) in record {
       finds = content-finds c.args.p c.args.numbers.now _ _ room (append-rest c.args.numbers.now _ c.args.p.count) c.args.line c.args.content.now c.args.rows.now c.args.lines.now
-          (numbers-in c.args.content.now w c.word_length-start.ensures _ _ c.read_numbers-read.ensures) c.in-Numbers.is c.requires.kept (omega (arith, c.requires.room.for-numbers, c.numbers-1.given));
+          (numbers-in c.args.content.now w c.word_length-start.ensures _ _ c.read_numbers-read.ensures) c.in-Some.is c.requires.kept (omega (arith, c.requires.room.for-numbers, c.numbers-1.given));
       room = record { for-numbers = omega (arith, c.requires.room.for-numbers, c.numbers-1.given); for-rows = c.requires.room.for-rows; for-lines = c.requires.room.for-lines };
     }
 
@@ -33,4 +33,4 @@ returns c =
     let w = c.word_of-word.ensures in
     let room : c.args.p.count ≤ length c.args.numbers.now = omega (arith, c.requires.kept.count_most, c.requires.kept.layers-most, c.requires.kept.r-most, c.requires.room.for-numbers) in
     content-read c.args.p c.args.numbers.now _ _ room (append-rest c.args.numbers.now _ c.args.p.count) c.args.line c.args.content.now c.args.rows.now c.args.lines.now
-    (numbers-in c.args.content.now w c.word_length-start.ensures _ _ c.read_numbers-read.ensures) c.in-Numbers.is w _ _ _ _ c.add_numbers.ensures
+    (numbers-in c.args.content.now w c.word_length-start.ensures _ _ c.read_numbers-read.ensures) c.in-Some.is w _ _ _ _ c.add_numbers.ensures

@@ -12,7 +12,7 @@ returns-in_default c =
 
 pub loop-i-preserved : goal.loop-i-preserved
 loop-i-preserved c =
-    given-again c.loop-i.invariant c.loop-i-test.true (number_read-value _ (sym c.in-Value.is ∙ c.read_one.ensures))
+    given-again c.loop-i.invariant c.loop-i-test.true (number_read-value _ (sym c.in-Ok.is ∙ c.read_one.ensures))
 
 pub returns : goal.returns
 returns c = given-all c.loop-i.invariant c.loop-i-test.false c.end_given-end.ensures

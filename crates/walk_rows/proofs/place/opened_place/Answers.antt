@@ -3,8 +3,8 @@ use mathlib.Core.Path.{sym, ap}
 use Rattle.walk.specs.RowWalk.{opened_place}
 use Rattle.walk_rows.proofs.place.opened_place.Goals as goal
 
-pub returns-in-Opened : goal.returns-in-Opened
-returns-in-Opened c = sym (ap opened_place c.in-Opened.is)
+pub returns-in-Ok : goal.returns-in-Ok
+returns-in-Ok c = sym (ap opened_place c.in-Ok.is)
 
-pub returns-in-Refused : goal.returns-in-Refused
-returns-in-Refused c = sym (ap opened_place c.in-Refused.is)
+pub returns-in-Err : goal.returns-in-Err
+returns-in-Err c = sym (ap opened_place c.in-Err.is)

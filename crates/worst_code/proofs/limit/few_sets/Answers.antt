@@ -11,38 +11,37 @@ pub overflow_sub-n : goal.overflow_sub-n
 overflow_sub-n c = omega (arith, c.requires.0)
 
 pub loop-i-init : goal.loop-i-init
-loop-i-init c = (omega arith, sym (choose-zero c.args.n), omega arith)
+loop-i-init c = (sym (choose-zero c.args.n), omega arith)
 
 pub overflow_sub-sets : goal.overflow_sub-sets
-overflow_sub-sets c = omega (arith, (let below-here : c.loop-i.i + 1 ≤ c.args.n = omega (arith, c.smaller-end.ensures, c.loop-i-test.true, c.requires.0) in below-here))
+overflow_sub-sets c = omega (arith, (let below-here : c.loop-i.i + 1 ≤ c.args.n = omega (arith, c.min-end.ensures, c.loop-i-test.true, c.requires.0) in below-here))
 
 pub overflow_mul-sets : goal.overflow_mul-sets
 overflow_mul-sets c =
-    omega (arith, product-fits c.loop-i.sets c.args.n c.loop-i.i c.loop-i.invariant.2 c.requires.1)
+    omega (arith, product-fits c.loop-i.sets c.args.n c.loop-i.i c.loop-i.invariant.1 c.requires.1)
 
 pub returns-then-sets-gt-MOST_SETS : goal.returns-then-sets-gt-MOST_SETS
 returns-then-sets-gt-MOST_SETS c =
     sym
-    (past-limit c.args.n (c.loop-i.i + 1) c.args.k c.args.b c.requires.0 (omega (arith, c.smaller-end.ensures, c.loop-i-test.true)) c.requires.2 ((let next-here : let n = c.args.n in
-    c.loop-i.sets * (n - c.loop-i.i) / (c.loop-i.i + 1) ≡ choose n (c.loop-i.i + 1) = product-step c.args.n c.loop-i.i (omega (arith, (let below-here : c.loop-i.i + 1 ≤ c.args.n = omega (arith, c.smaller-end.ensures, c.loop-i-test.true, c.requires.0) in below-here))) c.loop-i.invariant.1 in next-here))
+    (past-limit c.args.n (c.loop-i.i + 1) c.args.k c.args.b c.requires.0 (omega (arith, c.min-end.ensures, c.loop-i-test.true)) c.requires.2 ((let next-here : let n = c.args.n in
+    c.loop-i.sets * (n - c.loop-i.i) / (c.loop-i.i + 1) ≡ choose n (c.loop-i.i + 1) = product-step c.args.n c.loop-i.i (omega (arith, (let below-here : c.loop-i.i + 1 ≤ c.args.n = omega (arith, c.min-end.ensures, c.loop-i-test.true, c.requires.0) in below-here))) c.loop-i.invariant.0 in next-here))
     c.if-sets-gt-MOST_SETS.true)
 
 pub loop-i-preserved : goal.loop-i-preserved
 loop-i-preserved c = (
-  omega (arith, c.loop-i-test.true),
   (let next-here : let n = c.args.n in
-      c.loop-i.sets * (n - c.loop-i.i) / (c.loop-i.i + 1) ≡ choose n (c.loop-i.i + 1) = product-step c.args.n c.loop-i.i (omega (arith, (let below-here : c.loop-i.i + 1 ≤ c.args.n = omega (arith, c.smaller-end.ensures, c.loop-i-test.true, c.requires.0) in below-here))) c.loop-i.invariant.1 in next-here),
+      c.loop-i.sets * (n - c.loop-i.i) / (c.loop-i.i + 1) ≡ choose n (c.loop-i.i + 1) = product-step c.args.n c.loop-i.i (omega (arith, (let below-here : c.loop-i.i + 1 ≤ c.args.n = omega (arith, c.min-end.ensures, c.loop-i-test.true, c.requires.0) in below-here))) c.loop-i.invariant.0 in next-here),
   omega (arith, c.if-sets-gt-MOST_SETS.false),
 )
 
 pub overflow_mul-result : goal.overflow_mul-result
 overflow_mul-result c =
-    omega (arith, total-fits c.loop-i.sets c.args.b c.loop-i.invariant.2 c.requires.3)
+    omega (arith, total-fits c.loop-i.sets c.args.b c.loop-i.invariant.1 c.requires.3)
 
 pub returns : goal.returns
 returns c =
     let n = c.args.n in
     let k = c.args.k in
-    let all : c.loop-i.i ≡ min k (n - k) = omega (arith, c.smaller-end.ensures, c.loop-i.invariant.0, c.loop-i-test.false) in
-    let sets : c.loop-i.sets ≡ choose n k = c.loop-i.invariant.1 ∙ ap (choose n) all ∙ sym (choose-smaller n k c.requires.0) in
+    let all : c.loop-i.i ≡ min k (n - k) = omega (arith, c.min-end.ensures, c.loop-i.auto.i-end, c.loop-i-test.false) in
+    let sets : c.loop-i.sets ≡ choose n k = c.loop-i.invariant.0 ∙ ap (choose n) all ∙ sym (choose-smaller n k c.requires.0) in
     ap (λ m. leb (m * c.args.b) 16_777_216) sets

@@ -6,7 +6,4 @@ use Rattle.binomial.specs.Choose.{choose}
 use Rattle.worst_code.proofs.limit.few_sets.Given as goal
 
 abbrev pub invariant-loop-i : goal.invariant-loop-i
-invariant-loop-i l = (l.i ≤ l.end) × (l.sets ≡ choose l.n l.i) × (l.sets ≤ 16_777_216)
-
-abbrev pub decreases-loop-i : goal.decreases-loop-i
-decreases-loop-i l = l.end - l.i
+invariant-loop-i l = (l.sets ≡ choose l.n l.i) × (l.sets ≤ 16_777_216)

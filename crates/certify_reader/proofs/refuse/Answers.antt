@@ -1,7 +1,0 @@
--- `certify_reader::refuse` meets its contract: zeros and an empty list beside the refusal. Assumes nothing.
-use mathlib.Core.Path.{refl}
-use Rattle.layers.proofs.Listing.{nodes_array-nil}
-use Rattle.certify_reader.proofs.refuse.Goals as goal
-
-pub returns : goal.returns
-returns c = rw (← nodes_array-nil) refl

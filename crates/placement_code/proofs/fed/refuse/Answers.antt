@@ -1,7 +1,0 @@
--- `placement_code::fed::refuse` meets its contract: no feeders beside the refusal. Assumes nothing.
-use mathlib.Core.Path.{refl}
-use Rattle.layers.proofs.Listing.{nodes_array-nil}
-use Rattle.placement_code.proofs.fed.refuse.Goals as goal
-
-pub returns : goal.returns
-returns c = rw (← nodes_array-nil) refl
