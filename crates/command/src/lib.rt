@@ -3,7 +3,8 @@
 // Functions take the runtime itself and not its traits, so that a program reaches no call of the system but those that are made here.
 #![tactic(auto)]
 
-ghost use Rattle.std.specs.Prelude.{◌+◌, ◌≤◌, length};
+ghost use Rattle.std.specs.Prelude.{◌≡◌, ℕ, ◌+◌, ◌≤◌, IsNone, List, length};
+ghost use Rattle.std.specs.Fn.{FnOnceReturnsAtPair};
 ghost use Rattle.console.specs.Counts.{IsPrefixLen};
 
 use console::Taken;
@@ -71,10 +72,13 @@ pub fn arguments(rt: &HostRuntime, text: &mut [u8]) -> usize
     at
 }
 
-// Runs a program that takes numbers and then a file: `answer` is given the arguments, as `arguments` puts them, and the first 32,768 bytes
-// of standard input. Where that can't be read, it is said, and nothing is answered.
-pub fn run<F: FnOnce(&[u8], &[u8])>(rt: &HostRuntime, answer: F)
+// Runs a program that takes numbers and then a file, and answers what was read: `answer` is given the arguments, as `arguments` puts them,
+// and the first 32,768 bytes of standard input. Where that can't be read, it is said, and nothing is answered.
+pub fn run<F: FnOnce(&[u8], &[u8])>(rt: &HostRuntime, answer: F) -> Taken
     requires { F.IsAlwaysCallable answer }
+    ensures counted { result.count ≤ 32_768 }
+    ensures given { IsNone result.failure → (arguments bytes : List ℕ) × (length arguments ≤ 272) × (length bytes ≡ result.count)
+        × FnOnceReturnsAtPair F.FnOnce answer arguments bytes tt }
 {
     let mut words = [0u8; 272];
     let size = arguments(rt, &mut words);
@@ -83,6 +87,7 @@ pub fn run<F: FnOnce(&[u8], &[u8])>(rt: &HostRuntime, answer: F)
     if taken.failure.is_none() {
         answer(&words[0..size], &buffer[0..taken.count]);
     }
+    taken
 }
 
 // How many arguments there are, the program's own name not counted.

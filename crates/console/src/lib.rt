@@ -2,6 +2,7 @@
 #![tactic(auto)]
 
 ghost use Rattle.std.specs.Prelude.{◌≡◌, ◌+◌, ◌<◌, ◌≤◌, IsNone, drop, length, take};
+ghost use Rattle.std.specs.Fn.{FnOnceReturnsAt};
 ghost use Rattle.std.specs.Io.KnownBytes.{Consumes, IsAtEnd};
 ghost use Rattle.console.specs.Counts.{IsPrefixLen};
 
@@ -80,15 +81,18 @@ pub fn read_input<R: Read>(rt: &impl Eprint, reader: &mut R, buffer: &mut [u8]) 
     taken
 }
 
-// Runs a program that takes a file on standard input: `answer` is given as much of it as the buffer holds. Where it can't be read, it is
-// said, and nothing is answered.
-pub fn run<F: FnOnce(&[u8])>(rt: &HostRuntime, buffer: &mut [u8], answer: F)
+// Runs a program that takes a file on standard input, and answers what was read: `answer` is given as much of it as the buffer holds.
+// Where it can't be read, it is said, and nothing is answered.
+pub fn run<F: FnOnce(&[u8])>(rt: &HostRuntime, buffer: &mut [u8], answer: F) -> Taken
     requires { F.IsAlwaysCallable answer }
+    ensures counted { IsPrefixLen result.count buffer.new }
+    ensures given { IsNone result.failure → FnOnceReturnsAt F.FnOnce answer (take result.count buffer.new) tt }
 {
     let taken = read_input(rt, &mut rt.stdin(), buffer);
     if taken.failure.is_none() {
         answer(&buffer[0..taken.count]);
     }
+    taken
 }
 
 // Writes to standard output, and says where it can't.

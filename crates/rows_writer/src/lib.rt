@@ -11,8 +11,9 @@ pub fn copy_bytes(out: &mut [u8], bytes: &[u8])
     requires { length bytes.now ≤ length out.old }
     ensures { out.new ≡ over_start bytes.now out.old }
 {
-    let n = bytes.len();
-    out[..n].copy_from_slice(bytes);
+    for place in 0..bytes.len() {
+        out[place] = bytes[place];
+    }
 }
 
 // Writes c rows of r bytes to the start of `out`. Row j is block j mod m of the m blocks: the blocks are written once, and then, as

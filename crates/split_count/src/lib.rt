@@ -18,10 +18,11 @@ fn count_by_records(below: &[u16], each: usize, left: usize) -> usize
 {
     let mut best: usize = 0;
     let mut least = usize::from(below[left]);
-    for c in 1..=left {
-        let loss = c * each + usize::from(below[left - c]);
+    for c in 0..left {
+        let more = c + 1;
+        let loss = more * each + usize::from(below[left - more]);
         if loss <= least {
-            best = c;
+            best = more;
             least = loss;
         }
     }

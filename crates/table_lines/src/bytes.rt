@@ -6,5 +6,10 @@ ghost use Rattle.table.specs.Lines.{before};
 pub fn first_of(bytes: &[u8], byte: u8) -> usize
     ensures { result ≡ length (before byte bytes.now) }
 {
-    bytes.iter().position(|b| *b == byte).unwrap_or(bytes.len())
+    for i in 0..bytes.len() {
+        if bytes[i] == byte {
+            return i;
+        }
+    }
+    bytes.len()
 }

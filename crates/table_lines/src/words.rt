@@ -8,7 +8,15 @@ use table::Word;
 pub fn starts_with(line: &[u8], word: &[u8]) -> bool
     ensures { result ≡ begins word.now line.now }
 {
-    line.starts_with(word)
+    for i in 0..word.len() {
+        if line.len() <= i {
+            return false;
+        }
+        if line[i] != word[i] {
+            return false;
+        }
+    }
+    true
 }
 
 // The word that the line begins with.

@@ -17,16 +17,12 @@ pub loop-c-preserved : goal.loop-c-preserved
 loop-c-preserved c =
     let e : c.loop-c.c + 1 - 1 ≡ c.loop-c.c = omega arith in (
       omega arith,
-      rw e
-          (scan-more (sum_at (λ n. n * c.args.each) c.args.below.now c.args.left) c.loop-c.invariant.1 (omega arith)
-          (ap (λ m. c.loop-c.c * c.args.each + m) c.from.ensures)
-          (elim c.if-loss-least.branch [ then-loss-least w ↦ inl (w.if-loss-least.true, w.best-is, w.least-is) | else-loss-least w ↦ inr (omega arith, w.best-is, w.least-is) ])),
+      scan-more (sum_at (λ n. n * c.args.each) c.args.below.now c.args.left) (rw e c.loop-c.invariant.1) (omega arith)
+          (ap (λ m. (c.loop-c.c + 1) * c.args.each + m) c.from.ensures)
+          (elim c.if-loss-least.branch [ then-loss-least w ↦ inl (w.if-loss-least.true, w.best-is, w.least-is) | else-loss-least w ↦ inr (omega arith, w.best-is, w.least-is) ]),
     )
 
-pub returns-after-loss-least : goal.returns-after-loss-least
-returns-after-loss-least c =
+pub returns : goal.returns
+returns c =
     let e : c.loop-c.c ≡ c.args.left = omega arith in
-    (scan-more (sum_at (λ n. n * c.args.each) c.args.below.now c.args.left) c.loop-c.invariant.1 (omega arith)
-    (ap (λ m. c.loop-c.c * c.args.each + m) c.from.ensures)
-    (elim c.if-loss-least.branch [ then-loss-least w ↦ inl (w.if-loss-least.true, w.best-is, w.least-is) | else-loss-least w ↦ inr (omega arith, w.best-is, w.least-is) ])).last-least
-    ∙ ap (last_least (sum_at (λ n. n * c.args.each) c.args.below.now c.args.left)) e
+    c.loop-c.invariant.1.last-least ∙ ap (last_least (sum_at (λ n. n * c.args.each) c.args.below.now c.args.left)) e

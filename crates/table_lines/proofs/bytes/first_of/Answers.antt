@@ -1,14 +1,19 @@
--- `table_lines::bytes::first_of` meets its contract. Assumes nothing.
-use mathlib.Core.Path.{◌∙◌}
-use lib.Dec.{eqb}
-use Rattle.std.proofs.Common.{rules, tests}
-use Rattle.std.proofs.lemmas.Iterator.{YieldsList-from_slice}
-use Rattle.std.proofs.lemmas.Iterator.Search.{position_from_yields_List}
-use Rattle.table_lines.proofs.Looking.{first-or-end}
+use native.Mathlib.Omega.{arith}
+use mathlib.Core.Path.{◌≡◌, ◌∙◌}
+use lib.ListN.{length}
+use Rattle.table_lines.proofs.Looking.{looked-none, looked-here, looked-next, looked-all}
 use Rattle.table_lines.proofs.bytes.first_of.Goals as goal
+
+pub loop-i-init : goal.loop-i-init
+loop-i-init c = looked-none _ _
+
+pub returns-then-bytes-i : goal.returns-then-bytes-i
+returns-then-bytes-i c = looked-here _ _ c.loop-i.invariant c.loop-i-test.true c.if-bytes-i.true
+
+pub loop-i-preserved : goal.loop-i-preserved
+loop-i-preserved c = looked-next _ _ c.loop-i.invariant c.loop-i-test.true c.if-bytes-i.false
 
 pub returns : goal.returns
 returns c =
-    c.unwrap_or.ensures
-    ∙ first-or-end c.args.byte c.args.bytes.now
-    (position_from_yields_List (λ b. eqb b c.args.byte) _ _ c.position.result c.position.ensures.ran (YieldsList-from_slice c.args.bytes.now cc) (λ x b q k. search (rules, tests)))
+    let e : length c.args.bytes.now ≡ c.loop-i.i = omega (arith, c.loop-i.invariant.within, c.loop-i-test.false) in
+    e ∙ looked-all _ _ c.loop-i.invariant c.loop-i-test.false
